@@ -1,0 +1,1 @@
+// Free intervals and best fit over a predicate on columns: definitions (specs/) and their meanings (proofs/).

@@ -1,0 +1,143 @@
+-- What was written reads back as the same event and length, whatever follows it; what was read, written again, gives the same bytes. Assumes nothing.
+use Prim.Native.Nat.{ℕ, zero, suc, _+_, _*_, _/_, _%_, _^_, _≤_, _<_}
+use mathlib.Core.Path.{_≡_, refl, sym, ap, ap₂, _∙_, subst}
+use mathlib.Core.Bool.{Bool, true, false, cond}
+use mathlib.Core.List.{List, [], _∷_, _++_}
+use native.Mathlib.Omega.{arith}
+use native.Mathlib.Nat.{pow-suc}
+use lib.Dec.{T, leb, ltb, eqb}
+use lib.ListN.{length, take, drop, getD}
+use lib.Seq.{take-add, drop-drop}
+use borrow.Author.Tests.{le-ltb, ltb-false, eqb-true}
+use Rattle.tasks.specs.declared.Submission.{Submission}
+use Rattle.events.specs.declared.Event.{Event}
+use Rattle.events.specs.declared.Event.the-variants.{NewBoard, Submit, Clock, Withdraw}
+use Rattle.events.specs.declared.Read.{Read}
+use Rattle.events.specs.declared.Read.the-variants.{End, Got, CutShort, Unknown}
+use Rattle.events.specs.Records.{bytesOf, numberOf, field, kindOf, bodyOf, recordOf, newBoardIn, submitIn, clockIn, withdrawIn, wholeOr15, readFrom}
+
+-- a number of n bytes is the number of its n bytes
+pub number-bytes : (n x : ℕ) → x < 256 ^ n → numberOf (bytesOf n x) ≡ x
+unfolding bytesOf numberOf
+number-bytes zero x h = omega arith
+number-bytes (suc n) x h =
+    let k : x < 256 ^ n * 256 = subst (λ m. x < m) (pow-suc 256 n) h in
+    let r = number-bytes n (x / 256) (omega arith) in
+    omega arith
+
+-- every number of the list is a byte
+abbrev pub Bytes : List ℕ → Type 0
+Bytes l = (i : ℕ) → getD l i 0 < 256
+
+-- n bytes are the bytes of their number
+pub bytes-number : (n : ℕ) (l : List ℕ) → Bytes l → n ≤ length l → bytesOf n (numberOf (take n l)) ≡ take n l
+unfolding bytesOf numberOf
+bytes-number zero l h k = refl
+bytes-number (suc n) [] h k = absurd (omega arith)
+bytes-number (suc n) (b ∷ l) h k =
+    let r = bytes-number n l (λ i. h (suc i)) (omega arith) in
+    let low : (b + 256 * numberOf (take n l)) % 256 ≡ b = omega (arith, h 0) in
+    let high : (b + 256 * numberOf (take n l)) / 256 ≡ numberOf (take n l) = omega (arith, h 0) in
+    rw (low, high, r)
+
+field-bytes : (at n : ℕ) (l : List ℕ) → Bytes l → at + n ≤ length l → bytesOf n (field at n l) ≡ take n (drop at l)
+field-bytes zero n l h k = bytes-number n l h (omega arith)
+field-bytes (suc at) zero [] h k = unfold bytesOf in refl
+field-bytes (suc at) (suc n) [] h k = absurd (omega arith)
+field-bytes (suc at) n (b ∷ l) h k = field-bytes at n l (λ i. h (suc i)) (omega arith)
+
+-- each field of an event has its record's width
+pub record SubmissionFits (a : Submission) : Type 0 where
+  pub id : a .id < 256 ^ 4
+  pub w : a .w < 256 ^ 2
+  pub h : a .h < 256 ^ 2
+  pub e : a .e < 256 ^ 4
+  pub d : a .d < 256 ^ 4
+
+pub data Fits : Event → Type 0 where
+  board : {W H : ℕ} → W < 256 ^ 2 → H < 256 ^ 2 → Fits (NewBoard W H)
+  submission : {n : ℕ} {a : Submission} → n < 256 ^ 1 → SubmissionFits a → Fits (Submit n a)
+  instant : {i : ℕ} → i < 256 ^ 4 → Fits (Clock i)
+  name : {n : ℕ} → n < 256 ^ 4 → Fits (Withdraw n)
+
+-- a body that is there is read
+whole : (kind n : ℕ) (body : List ℕ) (v : Event) → n ≤ length body → wholeOr15 kind n body v ≡ Got v (suc n)
+unfolding wholeOr15
+whole kind n body v h = rw (le-ltb (length body) n h)
+
+-- WHAT WAS WRITTEN READS BACK as the same event and length, whatever follows it
+pub read-written : (v : Event) → Fits v → (rest : List ℕ) → readFrom (recordOf v ++ rest) ≡ Got v (length (recordOf v))
+unfolding readFrom recordOf kindOf bodyOf bytesOf
+read-written (NewBoard W H) (board p q) rest =
+    whole 1 4 (bodyOf (NewBoard W H) ++ rest) _ (omega arith)
+    ∙ ap₂ (λ x y. Got (NewBoard x y) 5) (number-bytes 2 W p) (number-bytes 2 H q)
+read-written (Submit n a) (submission p q) rest =
+    whole 2 17 (bodyOf (Submit n a) ++ rest) _ (omega arith)
+    ∙ (λ i. Got (Submit (number-bytes 1 n p i) (record {
+      id = number-bytes 4 (a .id) (q .id) i;
+      e = number-bytes 4 (a .e) (q .e) i;
+      d = number-bytes 4 (a .d) (q .d) i;
+      w = number-bytes 2 (a .w) (q .w) i;
+      h = number-bytes 2 (a .h) (q .h) i;
+    })) 18)
+read-written (Clock i) (instant p) rest =
+    whole 3 4 (bodyOf (Clock i) ++ rest) _ (omega arith) ∙ ap (λ x. Got (Clock x) 5) (number-bytes 4 i p)
+read-written (Withdraw n) (name p) rest =
+    whole 4 4 (bodyOf (Withdraw n) ++ rest) _ (omega arith) ∙ ap (λ x. Got (Withdraw x) 5) (number-bytes 4 n p)
+
+-- two fields beside each other
+beside : (at n m : ℕ) (l : List ℕ) → take n (drop at l) ++ take m (drop (at + n) l) ≡ take (n + m) (drop at l)
+beside at n m l = sym (take-add n m (drop at l) ∙ ap (λ x. take n (drop at l) ++ take m x) (drop-drop n at l))
+
+-- the body of what a body is, is that body
+body-again : (v : List ℕ → Event) (n : ℕ) → Type 0
+body-again v n = (l : List ℕ) → Bytes l → n ≤ length l → bodyOf (v l) ≡ take n l
+
+new-board-again : body-again newBoardIn 4
+unfolding body-again bodyOf
+new-board-again l h k = rw (field-bytes 0 2 l h (omega arith), field-bytes 2 2 l h (omega arith)) (beside 0 2 2 l)
+
+submit-again : body-again submitIn 17
+unfolding body-again bodyOf
+submit-again l h k =
+    rw (field-bytes 0 1 l h (omega arith), field-bytes 1 4 l h (omega arith), field-bytes 5 2 l h (omega arith), field-bytes 7 2 l h (omega arith), field-bytes 9 4 l h (omega arith), field-bytes 13 4 l h (omega arith))
+    (rw (beside 0 1 4 l, beside 0 5 2 l, beside 0 7 2 l, beside 0 9 4 l) (beside 0 13 4 l))
+
+clock-again : body-again clockIn 4
+unfolding body-again bodyOf
+clock-again l h k = field-bytes 0 4 l h k
+
+withdraw-again : body-again withdrawIn 4
+unfolding body-again bodyOf
+withdraw-again l h k = field-bytes 0 4 l h k
+
+-- what a reading of a whole body says
+data Taken (kind n : ℕ) (body : List ℕ) (v : Event) (u : Event) (size : ℕ) : Type 0 where
+  taken : n ≤ length body → u ≡ v → size ≡ suc n → Taken kind n body v u size
+
+whole-taken : (kind n : ℕ) (body : List ℕ) (v u : Event) (size : ℕ) → wholeOr15 kind n body v ≡ Got u size → Taken kind n body v u size
+unfolding wholeOr15
+whole-taken kind n body v u size e = go (ltb (length body) n) refl e
+  where
+    go : (b : Bool) → ltb (length body) n ≡ b → cond b (CutShort kind) (Got v (suc n)) ≡ Got u size → Taken kind n body v u size
+    go true q k = absurd (let z : _≡_ {A = ℕ} 0 1 = cc in omega arith)
+    go false q k = taken (ltb-false (length body) n q) (cc) (cc)
+
+-- WHAT WAS READ, WRITTEN AGAIN, gives the bytes that were taken
+pub written-again : (l : List ℕ) → Bytes l → (v : Event) (size : ℕ) → readFrom l ≡ Got v size → recordOf v ≡ take size l
+unfolding readFrom recordOf kindOf body-again
+written-again [] h v size e = absurd (let z : _≡_ {A = ℕ} 0 1 = cc in omega arith)
+written-again (kind ∷ body) h v size e = by (eqb kind 1) refl (eqb kind 2) refl (eqb kind 3) refl (eqb kind 4) refl e
+  where
+    again : (n : ℕ) (f : List ℕ → Event) → kind ≡ kindOf (f body) → body-again f n → Taken kind n body (f body) v size → recordOf v ≡ take size (kind ∷ body)
+    again n f z g (taken m q r) =
+        ap recordOf q ∙ ap₂ (λ x xs. x ∷ xs) (sym z) (g body (λ i. h (suc i)) m) ∙ sym (ap (λ x. take x (kind ∷ body)) r)
+
+    by : (a : Bool) → eqb kind 1 ≡ a → (b : Bool) → eqb kind 2 ≡ b → (c : Bool) → eqb kind 3 ≡ c → (d : Bool) → eqb kind 4 ≡ d
+        → cond a (wholeOr15 kind 4 body (newBoardIn body)) (cond b (wholeOr15 kind 17 body (submitIn body)) (cond c (wholeOr15 kind 4 body (clockIn body)) (cond d (wholeOr15 kind 4 body (withdrawIn body)) (Unknown kind)))) ≡ Got v size
+        → recordOf v ≡ take size (kind ∷ body)
+    by true z b y c x d w k = again 4 newBoardIn (eqb-true kind 1 z) new-board-again (whole-taken kind 4 body (newBoardIn body) v size k)
+    by false z true y c x d w k = again 17 submitIn (eqb-true kind 2 y) submit-again (whole-taken kind 17 body (submitIn body) v size k)
+    by false z false y true x d w k = again 4 clockIn (eqb-true kind 3 x) clock-again (whole-taken kind 4 body (clockIn body) v size k)
+    by false z false y false x true w k = again 4 withdrawIn (eqb-true kind 4 w) withdraw-again (whole-taken kind 4 body (withdrawIn body) v size k)
+    by false z false y false x false w k = absurd (let o : _≡_ {A = ℕ} 0 1 = cc in omega arith)

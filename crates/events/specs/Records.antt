@@ -1,0 +1,111 @@
+-- Event records: the bytes of an event, what reading a list of bytes gives, the writer's buffer afterwards. Assumes nothing.
+use Prim.Native.Nat.{ℕ, zero, suc, _+_, _*_, _/_, _%_}
+use mathlib.Core.Bool.{Bool, cond}
+use mathlib.Core.List.{List, [], _∷_, _++_}
+use lib.Dec.{leb, ltb, eqb}
+use lib.ListN.{length, take, drop}
+use Rattle.lists.specs.Lists.{overFront}
+use Rattle.tasks.specs.declared.Submission.{Submission}
+use Rattle.events.specs.declared.Event.{Event}
+use Rattle.events.specs.declared.Event.the-variants.{NewBoard, Submit, Clock, Withdraw}
+use Rattle.events.specs.declared.Read.{Read}
+use Rattle.events.specs.declared.Read.the-variants.{End, Got, CutShort, Unknown}
+use Rattle.events.specs.declared.Written.{Written}
+use Rattle.events.specs.declared.Written.the-variants.{NoRoom, Length}
+
+-- "numbers little-endian": the n bytes of a number
+unfoldable pub bytesOf : ℕ → ℕ → List ℕ
+bytesOf zero x = []
+bytesOf (suc n) x = (x % 256) ∷ bytesOf n (x / 256)
+
+-- the number of some bytes
+unfoldable pub numberOf : List ℕ → ℕ
+numberOf [] = 0
+numberOf (b ∷ bs) = b + 256 * numberOf bs
+
+-- the number of the n bytes at a place of the body
+abbrev pub field : ℕ → ℕ → List ℕ → ℕ
+field at n body = numberOf (take n (drop at body))
+
+-- "Kind": 1 new board, 2 submit, 3 clock, 4 withdraw
+unfoldable pub kindOf : Event → ℕ
+kindOf (NewBoard W H) = 1
+kindOf (Submit n a) = 2
+kindOf (Clock i) = 3
+kindOf (Withdraw n) = 4
+
+-- "Body": W 2, H 2; planner 1, id 4, w 2, h 2, e 4, d 4; instant 4; id 4
+unfoldable pub bodyOf : Event → List ℕ
+bodyOf (NewBoard W H) = bytesOf 2 W ++ bytesOf 2 H
+bodyOf (Submit n a) =
+    bytesOf 1 n ++ bytesOf 4 (a .id) ++ bytesOf 2 (a .w) ++ bytesOf 2 (a .h) ++ bytesOf 4 (a .e) ++ bytesOf 4 (a .d)
+bodyOf (Clock i) = bytesOf 4 i
+bodyOf (Withdraw n) = bytesOf 4 n
+
+-- "One byte of kind, then a body"
+unfoldable pub recordOf : Event → List ℕ
+recordOf v = kindOf v ∷ bodyOf v
+
+-- the events that a body of each kind is
+abbrev pub newBoardIn : List ℕ → Event
+newBoardIn body = NewBoard (field 0 2 body) (field 2 2 body)
+
+abbrev pub submitIn : List ℕ → Event
+submitIn body =
+    Submit (field 0 1 body) (record {
+      id = field 1 4 body;
+      e = field 9 4 body;
+      d = field 13 4 body;
+      w = field 5 2 body;
+      h = field 7 2 body;
+    })
+
+abbrev pub clockIn : List ℕ → Event
+clockIn body = Clock (field 0 4 body)
+
+abbrev pub withdrawIn : List ℕ → Event
+withdrawIn body = Withdraw (field 0 4 body)
+
+-- "a known kind with too few bytes is 15": the event and the bytes it took, where its n bytes of body are there
+unfoldable pub wholeOr15 : ℕ → ℕ → List ℕ → Event → Read
+wholeOr15 kind n body v = cond (ltb (length body) n) (CutShort kind) (Got v (suc n))
+
+-- THE READER: "No kind byte left is the end"; an unknown kind byte is 16; it judges no field value
+unfoldable pub readFrom : List ℕ → Read
+readFrom [] = End
+readFrom (kind ∷ body) =
+    cond (eqb kind 1) (wholeOr15 kind 4 body (newBoardIn body))
+    (cond (eqb kind 2) (wholeOr15 kind 17 body (submitIn body))
+    (cond (eqb kind 3) (wholeOr15 kind 4 body (clockIn body))
+    (cond (eqb kind 4) (wholeOr15 kind 4 body (withdrawIn body)) (Unknown kind))))
+
+-- THE WRITER: "puts one record at the front of a lent buffer and returns its length; too little room gives 17"
+unfoldable pub written : Event → ℕ → Written
+written v room = cond (leb (length (recordOf v)) room) (Length (length (recordOf v))) NoRoom
+
+-- "bytes beyond the record stay"; a refusal leaves every byte
+unfoldable pub writtenBuffer : Event → List ℕ → List ℕ
+writtenBuffer v buffer = cond (leb (length (recordOf v)) (length buffer)) (overFront (recordOf v) buffer) buffer
+
+-- an answer number with the kind byte and the bytes taken
+pub record ToldRead : Type 0 where
+  pub number : ℕ
+  pub kind : ℕ
+  pub taken : ℕ
+
+-- "No kind byte left is the end, no refusal, 0 bytes taken"; "With 15 and 16 come the kind byte, no event and 0 bytes taken"
+unfoldable pub toldRead : Read → ToldRead
+toldRead End = record { number = 0; kind = 0; taken = 0 }
+toldRead (Got v n) = record { number = 0; kind = kindOf v; taken = n }
+toldRead (CutShort k) = record { number = 15; kind = k; taken = 0 }
+toldRead (Unknown k) = record { number = 16; kind = k; taken = 0 }
+
+-- an answer number with the length
+pub record ToldWritten : Type 0 where
+  pub number : ℕ
+  pub length : ℕ
+
+-- "returns its length; too little room gives 17"
+unfoldable pub toldWritten : Written → ToldWritten
+toldWritten NoRoom = record { number = 17; length = 0 }
+toldWritten (Length n) = record { number = 0; length = n }

@@ -1,0 +1,1 @@
+// Lists: definitions (specs/) and their laws (proofs/) only. There is no code to run.

@@ -1,0 +1,1 @@
+// What a viewer draws of the live tasks: definitions (specs/).

@@ -1,0 +1,145 @@
+-- Demand 3 about the definitions: the openings are exactly document 01's pairs, strictly ordered, and Full takes the first. Assumes nothing.
+use Prim.Native.Nat.{ℕ, zero, suc, _+_, _-_, _≤_, _<_, max, min}
+use mathlib.Core.Path.{_≡_, refl, sym, ap, _∙_, subst}
+use mathlib.Core.Logic.{_⊎_, inl, inr}
+use mathlib.Core.Bool.{Bool, true, false, not, _&&_}
+use mathlib.Core.Option.{Option, none, some}
+use mathlib.Core.List.{List, [], _∷_, List·Memᴰ·head as here, List·Memᴰ·tail as there, List·Memᴰ·cases-cons as cases, List·Memᴰ·not-nil as nowhere}
+use native.Mathlib.Omega.{arith}
+use lib.Dec.{T, ltb, ltb→lt, lt→ltb, not-T, T-not}
+use lib.ListN.{length}
+use Rattle.lists.specs.Lists.{_∈_, some?, head?, range}
+use Rattle.lists.proofs.Bools.{and-l, and-r, and-i}
+use Rattle.lists.proofs.Members.{none-pass, pass-none, range-in, in-range, head-none, head-some}
+use Rattle.lists.proofs.Order.{Sorted, Sorted·head, sorted-range, sorted-by}
+use Rattle.ways.specs.Ways.{Pair, pair, Ways, isOpen, openingsIn, openingsAfter, askedOn}
+use Rattle.ways.proofs.Laws.{Lawful, Open, After, sooner, beside, openings-in, in-openings, openings-sorted, openings-unique, asked-all, all}
+use Rattle.tasks.specs.declared.Task.{Task}
+use Rattle.tasks.specs.declared.Submission.{Submission}
+use Rattle.tasks.specs.Tasks.{finish, overlap, meets, inPhase, stamped, booked}
+use Rattle.tasks.proofs.Laws.{Common, overlap-common, common-overlap, Share, meets-share, share-meets}
+use Rattle.planners.specs.Openings.{Place, ways, openings, full}
+
+-- AN OPENING, in the words of document 01
+pub record Opening (W now : ℕ) (ts : List Task) (a : Submission) (p : Place) : Type 0 where
+  -- now ≤ s ≤ d − e
+  pub from-now : now ≤ p .start
+  pub in-time : p .start + a .e ≤ a .d
+  -- columns count from 1, and c + w − 1 ≤ W
+  pub from-one : 1 ≤ p .place
+  pub on-device : p .place + a .w ≤ suc W
+  -- no column shared with a live task at any tick from s up to s + e
+  pub apart : (u : Task) → u ∈ ts → Common (p .place) (a .w) (u .column) (u .w) → Common (p .start) (a .e) (u .start) (u .e) → ⊥
+
+-- by start and then column
+pub data Before (p q : Place) : Type 0 where
+  earlier : p .start < q .start → Before p q
+  lower : p .start ≡ q .start → p .place < q .place → Before p q
+
+-- TIME ALONE: a stay that begins later still meets what has not finished
+pub later-meets : (t v m b n : ℕ) → T (overlap t m b n) → t ≤ v → v < b + n → T (overlap v m b n)
+later-meets t v m b n x p q =
+    let k = ltb→lt (max t b) (min (t + m) (b + n)) x in
+    lt→ltb (max v b) (min (v + m) (b + n)) (omega arith)
+
+module _ (W now : ℕ) (ts : List Task) (a : Submission) where
+  -- columns are places with an order, column 0 before all of them, and a task leaves with its finish
+  pub lawful : Lawful (ways W now ts a) 0
+  unfolding ways meets booked stamped
+  lawful = record {
+    leaves = finish;
+    stays = λ s v c u m l h.
+        let x = overlap c (a .w) (u .column) (u .w) in
+        let y = overlap s (a .e) (u .start) (u .e) in
+        and-i x (overlap v (a .e) (u .start) (u .e)) (and-l x y m) (later-meets s v (a .e) (u .start) (u .e) (and-r x y m) l h);
+    sorted = sorted-by _<_ (λ p q. T (ltb p q)) (λ x y h. lt→ltb x y h) (sorted-range 1 (suc W - a .w));
+    asym = λ p q h k. omega (arith, ltb→lt p q h, ltb→lt q p k);
+    trans = λ p q r h k. lt→ltb p r (omega (arith, ltb→lt p q h, ltb→lt q r k));
+    first = λ c m. lt→ltb 0 c (range-in 1 (suc W - a .w) m .low);
+  }
+
+  after-before : (p q : Place) → After (ways W now ts a) p q → Before p q
+  unfolding ways
+  after-before p q (sooner h) = earlier h
+  after-before p q (beside e h) = lower e (ltb→lt (p .place) (q .place) h)
+
+  before-after : (p q : Place) → Before p q → After (ways W now ts a) p q
+  unfolding ways
+  before-after p q (earlier h) = sooner h
+  before-after p q (lower e h) = beside e (lt→ltb (p .place) (q .place) h)
+
+  open-opening : (p : Place) → Open (ways W now ts a) p → Opening W now ts a p
+  unfolding ways isOpen booked stamped
+  open-opening p o =
+      let z = range-in 1 (suc W - a .w) (o .on-board) in
+      record {
+        from-now = o .from-now;
+        in-time = omega (arith, o .in-time);
+        from-one = z .low;
+        on-device = omega arith;
+        apart = λ u i x y. T-not (meets (booked now a (p .start) (p .place)) u) (none-pass (meets (booked now a (p .start) (p .place))) ts (o .clear) i)
+            (share-meets (booked now a (p .start) (p .place)) u (record { column = x; tick = y }));
+      }
+
+  opening-open : (p : Place) → Opening W now ts a p → Open (ways W now ts a) p
+  unfolding ways isOpen booked stamped
+  opening-open p o = record {
+    from-now = o .from-now;
+    in-time = omega (arith, o .in-time);
+    on-board = in-range 1 (suc W - a .w) (p .place) (o .from-one) (omega (arith, o .on-device));
+    clear = pass-none (meets (booked now a (p .start) (p .place))) ts
+        (λ u i. not-T (meets (booked now a (p .start) (p .place)) u) (λ m. clash u i (meets-share (booked now a (p .start) (p .place)) u m)));
+  }
+    where
+      clash : (u : Task) → u ∈ ts → Share (booked now a (p .start) (p .place)) u → ⊥
+      clash u i s = o .apart u i (s .column) (s .tick)
+
+  -- THE OPENINGS ARE EXACTLY THE PAIRS OF DOCUMENT 01
+  pub listed-opens : {p : Place} → p ∈ openings W now ts a → Opening W now ts a p
+  listed-opens {p} m = open-opening p (openings-in (ways W now ts a) m)
+
+  pub opens-listed : (p : Place) → Opening W now ts a p → p ∈ openings W now ts a
+  opens-listed p o = in-openings (ways W now ts a) p (opening-open p o)
+
+  -- STRICTLY ORDERED, so each once
+  pub openings-ordered : Sorted Before (openings W now ts a)
+  openings-ordered = sorted-by (After (ways W now ts a)) Before after-before (openings-sorted (ways W now ts a) 0 lawful)
+
+  -- AND THE ONLY SUCH LIST
+  pub openings-only : (ps : List Place) → Sorted Before ps → ((p : Place) → p ∈ ps → Opening W now ts a p) → ((p : Place) → Opening W now ts a p → p ∈ ps) → ps ≡ openings W now ts a
+  openings-only ps s f g =
+      openings-unique (ways W now ts a) 0 lawful ps (sorted-by Before (After (ways W now ts a)) before-after s)
+      (λ q m. opening-open q (f q m)) (λ q o. g q (open-opening q o))
+
+  -- ASKING ON from (0, 0), room for k ≥ 1 a time, goes through the whole list and ends
+  pub asking-on : (n k : ℕ) → 1 ≤ k → length (openings W now ts a) ≤ n → askedOn (ways W now ts a) n k (pair 0 0) ≡ openings W now ts a
+  asking-on n k h l =
+      let e = all (ways W now ts a) 0 lawful in
+      asked-all (ways W now ts a) 0 lawful n k (pair 0 0) h (rw e l) ∙ e
+
+  -- FULL rejects exactly when there is no opening
+  pub full-rejects : full W now ts a ≡ none → (p : Place) → Opening W now ts a p → ⊥
+  unfolding full
+  full-rejects e p o = nowhere (rw (head-none (openings W now ts a) e) at (opens-listed p o))
+
+  pub full-takes-one : (q : Place) → Opening W now ts a q → (p : Place) × (full W now ts a ≡ some p)
+  full-takes-one q o = go (full W now ts a) refl
+    where
+      go : (r : Option Place) → full W now ts a ≡ r → (p : Place) × (full W now ts a ≡ some p)
+      go none e = absurd (full-rejects e q o)
+      go (some p) e = (p, e)
+
+  -- and takes the first
+  pub full-opens : (p : Place) → full W now ts a ≡ some p → Opening W now ts a p
+  unfolding full
+  full-opens p e = let r = head-some (openings W now ts a) e in listed-opens (rw (r .1) (here refl))
+
+  pub full-first : (p q : Place) → full W now ts a ≡ some p → Opening W now ts a q → (q ≡ p) ⊎ Before p q
+  unfolding full
+  full-first p q e o =
+      let r = head-some (openings W now ts a) e in
+      pick (r .0) (cases (rw (r .1) at (opens-listed q o))) (rw (r .1) at openings-ordered)
+    where
+      pick : (ys : List Place) → (q ≡ p) ⊎ (q ∈ ys) → Sorted Before (p ∷ ys) → (q ≡ p) ⊎ Before p q
+      pick ys (inl z) s = inl z
+      pick ys (inr m) s = inr (Sorted·head Before s q m)

@@ -1,0 +1,1 @@
+// The four planners over (W, now, live tasks): definitions (specs/) and their meanings (proofs/).

@@ -1,0 +1,52 @@
+-- The proving set, and the cases that tell near misses apart, hold: the checker computes them from the definitions. Assumes nothing.
+use mathlib.Core.Path.{_≡_, refl}
+use mathlib.Core.List.{[], _∷_}
+use lib.Dec.{T}
+use Rattle.promises.specs.Cases.{submit, clock}
+use Rattle.lists.specs.Lists.{keep, some?, all?, pairwise?, head?, orElse, lastOr, putFirst, insertBy, sortBy, each, firstOf, range, highest, addTo, rising}
+use Rattle.ways.specs.Ways.{isOpen, pairsIn, openingsIn, after, openingsAfter, askedOn}
+use Rattle.tasks.specs.Numbers.{deviceFits, sizeFits, timeFits}
+use Rattle.tasks.specs.Tasks.{meets, covers, holds, phaseAt, stamped, zeros, booked}
+use Rattle.columns.specs.Columns.{join, runs, bestFit}
+use Rattle.planners.specs.Openings.{ways, full}
+use Rattle.planners.specs.Planners.{free, release, visited, clearOfWaiting, candidates, releasedEdges, reference, horizon, stuffing, planned}
+use Rattle.slots.specs.Slots.{agree, taskSound, slotSound, together, sound, named, known, withBooked, agedTo, allAgedTo, withoutNamed, runsNamed}
+use Rattle.lookups.specs.Lookups.{horizonList, stripWords, busyColumns}
+use Rattle.board.specs.Answers.{told}
+use Rattle.board.specs.Calls.{orRefused, freshBoard, created, withTask, taken, answered, submitted, boardAt, clocked, withdrawn, remaining, pairWords, opened, openedBuffer, listed, listedBuffer, counted}
+use Rattle.board.specs.Refusals.{refusal, refusedCreate, refusedSubmit, refusedInstant, refusedWithdraw, refusedOpenings, refusedHorizon}
+use Rattle.events.specs.Records.{bytesOf, numberOf, kindOf, bodyOf, recordOf, wholeOr15, readFrom, written, writtenBuffer, toldRead, toldWritten}
+use Rattle.session.specs.Recording.{lineOf, outcome, linesFrom, planLines}
+use Rattle.promises.specs.Cases.{numbers, afterEvent, play, same, sameAll, passes, at, only}
+use Rattle.promises.specs.Edges.{refusedList, edgeSet, filled}
+use Rattle.promises.specs.ProvingSet.{played, tableWith, withClocks, firstSix, seven, listing, provingSet, twoRuns, waitingAhead, tellingSet, listingEvents, listingLines, recording}
+
+-- every definition of the book, opened so that it computes
+open-book : Unit {0}
+unfolding keep some? all? pairwise? head? orElse lastOr putFirst insertBy sortBy each firstOf range highest addTo rising isOpen pairsIn openingsIn after openingsAfter askedOn deviceFits sizeFits timeFits meets covers holds phaseAt stamped zeros booked join runs bestFit ways full free release visited clearOfWaiting candidates releasedEdges reference horizon stuffing planned agree taskSound slotSound together sound named known withBooked agedTo allAgedTo withoutNamed runsNamed horizonList stripWords busyColumns told orRefused freshBoard created withTask taken answered submitted boardAt clocked withdrawn remaining pairWords opened openedBuffer listed listedBuffer counted refusal refusedCreate refusedSubmit refusedInstant refusedWithdraw refusedOpenings refusedHorizon bytesOf numberOf kindOf bodyOf recordOf wholeOr15 readFrom written writtenBuffer toldRead toldWritten lineOf outcome linesFrom planLines numbers afterEvent play same sameAll passes at only refusedList edgeSet filled played tableWith withClocks firstSix seven listing provingSet twoRuns waitingAhead tellingSet listingEvents listingLines recording
+open-book = tt
+
+-- CASES 1 TO 9 OF DOCUMENT 01
+pub proving-set : T (all? passes provingSet)
+unfolding open-book
+proving-set = tt
+
+-- what the nine cases alone do not tell apart
+pub telling-set : T (all? passes tellingSet)
+unfolding open-book
+telling-set = tt
+
+-- the edges of the number ranges, and the order of the refusals
+pub edge-set : T (all? passes edgeSet)
+unfolding open-book
+edge-set = tt
+
+-- case 11: with 64 live the next gives 9 even where no place exists, but 8 first; after they end a slot is taken
+pub filled-up : play (submit 0 65 1 1 1 9 ∷ submit 3 65 1 1 1 0 ∷ clock 9 ∷ submit 0 65 64 1 1 10 ∷ []) filled ≡ only 9 ∷ only 8 ∷ only 0 ∷ at 1 9 10 ∷ []
+unfolding open-book
+filled-up = refl
+
+-- THE LISTING OF DOCUMENT 01, from the bytes of its records to the lines of `plan`
+pub listing-printed : planLines (recording listingEvents) ≡ listingLines
+unfolding open-book
+listing-printed = refl

@@ -1,0 +1,84 @@
+-- How a case is written down: a device, what is done and asked, and the numbers that come of it. Assumes nothing.
+use Prim.Native.Nat.{ℕ, zero, suc}
+use mathlib.Core.Bool.{Bool, true, false, cond}
+use mathlib.Core.List.{List, [], _∷_, _++_}
+use lib.Dec.{eqb}
+use lib.ListN.{length, getD, replicate}
+use Rattle.tasks.specs.declared.Submission.{Submission}
+use Rattle.board.specs.declared.Board.{Board}
+use Rattle.board.specs.Answers.{Told}
+use Rattle.board.specs.Calls.{created, opened, openedBuffer, listed, listedBuffer, counted}
+use Rattle.events.specs.declared.Event.{Event}
+use Rattle.events.specs.declared.Event.the-variants.{NewBoard, Submit, Clock, Withdraw}
+use Rattle.session.specs.Recording.{Outcome, outcome}
+
+abbrev pub task : ℕ → ℕ → ℕ → ℕ → ℕ → Submission
+task id w h e d = record { id = id; e = e; d = d; w = w; h = h }
+
+-- what is done to a board, or asked of it with a buffer of that many words, each 999 before
+pub data Step : Type 0 where
+  board : (W H : ℕ) → Step
+  submit : (planner id w h e d : ℕ) → Step
+  clock : (instant : ℕ) → Step
+  withdraw : (id : ℕ) → Step
+  horizon : (words : ℕ) → Step
+  openings : (w h e d start column words : ℕ) → Step
+  busy : (instant : ℕ) → Step
+
+-- number, column, start, finish
+unfoldable pub numbers : Told → List ℕ
+numbers a = a .number ∷ a .column ∷ a .start ∷ a .finish ∷ []
+
+unfoldable pub afterEvent : Outcome → (Board → List (List ℕ)) → List (List ℕ)
+afterEvent r rest = numbers (r .answer) ∷ rest (r .board)
+
+-- a list of numbers for each step: of a question, its number, its counts and the whole buffer
+unfoldable pub play : List Step → Board → List (List ℕ)
+play [] b = []
+play (board W H ∷ vs) b = afterEvent (outcome b (NewBoard W H)) (play vs)
+play (submit n id w h e d ∷ vs) b = afterEvent (outcome b (Submit n (task id w h e d))) (play vs)
+play (clock i ∷ vs) b = afterEvent (outcome b (Clock i)) (play vs)
+play (withdraw n ∷ vs) b = afterEvent (outcome b (Withdraw n)) (play vs)
+play (horizon words ∷ vs) b =
+    let r = listed b words in
+    (r .number ∷ r .count ∷ listedBuffer b (replicate words 999)) ∷ play vs (r .board)
+play (openings w h e d s c words ∷ vs) b =
+    let r = opened b (task 0 w h e d) s c words in
+    (r .number ∷ r .count ∷ cond (r .more) 1 0 ∷ openedBuffer b (task 0 w h e d) s c (replicate words 999)) ∷ play vs (r .board)
+play (busy i ∷ vs) b =
+    let r = counted b i in
+    (r .number ∷ r .count ∷ []) ∷ play vs (r .board)
+
+-- steps on a new board of W columns and H rows, and what comes of each
+pub record Case : Type 0 where
+  pub W : ℕ
+  pub H : ℕ
+  pub steps : List Step
+  pub answers : List (List ℕ)
+
+abbrev pub case : ℕ → ℕ → List Step → List (List ℕ) → Case
+case W H vs out = record { W = W; H = H; steps = vs; answers = out }
+
+-- the same numbers
+unfoldable pub same : List ℕ → List ℕ → Bool
+same [] [] = true
+same [] (y ∷ ys) = false
+same (x ∷ xs) [] = false
+same (x ∷ xs) (y ∷ ys) = elim (eqb x y) [ true ↦ same xs ys | false ↦ false ]
+
+unfoldable pub sameAll : List (List ℕ) → List (List ℕ) → Bool
+sameAll [] [] = true
+sameAll [] (y ∷ ys) = false
+sameAll (x ∷ xs) [] = false
+sameAll (x ∷ xs) (y ∷ ys) = elim (same x y) [ true ↦ sameAll xs ys | false ↦ false ]
+
+unfoldable pub passes : Case → Bool
+passes k = sameAll (play (k .steps) (created (k .W) (k .H) .board)) (k .answers)
+
+-- a submission that is placed at a column and start for e ticks
+unfoldable pub at : ℕ → ℕ → ℕ → List ℕ
+at c s f = 0 ∷ c ∷ s ∷ f ∷ []
+
+-- an answer that is a number alone
+unfoldable pub only : ℕ → List ℕ
+only n = n ∷ 0 ∷ 0 ∷ 0 ∷ []

@@ -1,0 +1,60 @@
+-- The edges of every number range, and each refusal beside those that could win over it. Assumes nothing.
+use Prim.Native.Nat.{ℕ, zero, suc}
+use mathlib.Core.List.{List, [], _∷_, _++_, map}
+use lib.ListN.{replicate}
+use Rattle.lists.specs.Lists.{range}
+use Rattle.tasks.specs.declared.Phase.{Phase}
+use Rattle.tasks.specs.declared.Phase.the-variants.{Ended, Waiting, Running}
+use Rattle.tasks.specs.declared.Task.{Task}
+use Rattle.tasks.specs.Tasks.{freeSlot}
+use Rattle.board.specs.declared.Board.{Board}
+use Rattle.promises.specs.Cases.{Step, board, submit, clock, withdraw, horizon, openings, busy, Case, case, at, only}
+
+-- a question that is refused: the number, a count of 0, for openings no further one, and a buffer as it was
+unfoldable pub refusedList : ℕ → List ℕ → List ℕ
+refusedList n buffer = n ∷ 0 ∷ buffer
+
+unfoldable pub edgeSet : List Case
+edgeSet =
+    -- new board: W 1 to 256, H 1 to 1,024; a refused one leaves the board of zeros, on which every call answers 1
+    case 1 1 (board 256 1024 ∷ board 257 1024 ∷ board 0 1 ∷ board 1 0 ∷ board 256 1025 ∷ board 1 1 ∷ [])
+    (only 0 ∷ only 2 ∷ only 2 ∷ only 2 ∷ only 2 ∷ only 0 ∷ [])
+    ∷ case 0 1 (submit 4 0 0 0 0 0 ∷ clock 0 ∷ clock 2000000001 ∷ withdraw 1 ∷ horizon 1 ∷ openings 0 0 0 0 0 0 3 ∷ busy 0 ∷ board 1 1 ∷ clock 0 ∷ [])
+    (only 1 ∷ only 1 ∷ only 1 ∷ only 1 ∷ refusedList 1 (999 ∷ []) ∷ refusedList 1 (0 ∷ 999 ∷ 999 ∷ 999 ∷ []) ∷ refusedList 1 [] ∷ only 0 ∷ only 0 ∷ [])
+    -- submission: 3, 4, 5, 6 in this order, each at both ends of its range
+    ∷ case 4 2 (submit 4 0 5 1 0 9 ∷ submit 255 1 1 1 1 9 ∷ submit 3 0 5 1 0 9 ∷ submit 0 1 5 1 0 9 ∷ submit 0 1 0 1 1 9 ∷ submit 0 1 1 3 1 9 ∷ submit 0 1 1 0 1 9 ∷ [])
+    (only 3 ∷ only 3 ∷ only 4 ∷ only 5 ∷ only 5 ∷ only 5 ∷ only 5 ∷ [])
+    ∷ case 4 2 (submit 0 1 1 1 0 9 ∷ submit 0 1 1 1 1000001 1000001 ∷ submit 0 1 1 1 1 2000000001 ∷ submit 0 1 4 2 1000000 2000000000 ∷ [])
+    (only 6 ∷ only 6 ∷ only 6 ∷ at 1 0 1000000 ∷ [])
+    ∷ case 4 2 (submit 0 4294967295 4 2 1 1 ∷ submit 0 1 1 1 1 0 ∷ clock 1 ∷ submit 0 1 1 1 1 1 ∷ submit 0 1 1 1 1 2 ∷ [])
+    (at 1 0 1 ∷ only 8 ∷ only 0 ∷ only 8 ∷ at 1 1 2 ∷ [])
+    -- 6 before 7, 7 before 8, 7 over all slots, and the id is free again when its task has ended
+    ∷ case 4 1 (submit 0 7 1 1 2 9 ∷ submit 0 7 1 1 0 9 ∷ submit 0 7 1 1 1 0 ∷ submit 0 8 1 1 9 9 ∷ submit 0 8 1 1 1 9 ∷ clock 2 ∷ submit 0 7 1 1 1 9 ∷ [])
+    (at 1 0 2 ∷ only 6 ∷ only 7 ∷ at 2 0 9 ∷ only 7 ∷ only 0 ∷ at 1 2 3 ∷ [])
+    -- clock: 11 below now, 12 above 2,000,000,000, and the clock can go as far as that
+    ∷ case 1 1 (clock 5 ∷ clock 4 ∷ clock 5 ∷ clock 2000000001 ∷ clock 2000000000 ∷ clock 0 ∷ [])
+    (only 0 ∷ only 11 ∷ only 0 ∷ only 12 ∷ only 0 ∷ only 11 ∷ [])
+    -- withdrawal: 13 where no live task has the id, 14 from the start on; its columns, slot and horizon are free again
+    ∷ case 2 1 (submit 1 1 2 1 2 9 ∷ submit 1 2 2 1 3 9 ∷ withdraw 3 ∷ withdraw 0 ∷ withdraw 1 ∷ withdraw 2 ∷ withdraw 2 ∷ horizon 3 ∷ submit 1 3 2 1 2 4 ∷ clock 2 ∷ withdraw 3 ∷ withdraw 1 ∷ [])
+    (at 1 0 2 ∷ at 1 2 5 ∷ only 13 ∷ only 13 ∷ only 14 ∷ only 0 ∷ only 13 ∷ (0 ∷ 1 ∷ 1 ∷ 2 ∷ 2 ∷ []) ∷ at 1 2 4 ∷ only 0 ∷ only 14 ∷ only 13 ∷ [])
+    -- openings: 5, 6, 8 in this order; no room, an odd word, a pair behind the last, starts after the last finish
+    ∷ case 2 1 (submit 0 1 2 1 2 9 ∷ openings 3 1 0 9 0 0 3 ∷ openings 1 2 1 9 0 0 3 ∷ openings 1 1 0 0 0 0 3 ∷ openings 1 1 1 2000000001 0 0 3 ∷ openings 1 1 1 0 0 0 3 ∷ [])
+    (at 1 0 2 ∷ (5 ∷ 0 ∷ 0 ∷ replicate 3 999) ∷ (5 ∷ 0 ∷ 0 ∷ replicate 3 999) ∷ (6 ∷ 0 ∷ 0 ∷ replicate 3 999) ∷ (6 ∷ 0 ∷ 0 ∷ replicate 3 999) ∷ (8 ∷ 0 ∷ 0 ∷ replicate 3 999) ∷ [])
+    ∷ case 2 1 (submit 0 1 2 1 2 9 ∷ openings 1 1 1 4 0 0 0 ∷ openings 1 1 1 4 0 0 1 ∷ openings 1 1 1 4 0 0 5 ∷ openings 1 1 1 4 2 2 4 ∷ openings 1 1 1 4 3 2 4 ∷ openings 2 1 1 5 0 0 9 ∷ openings 1 1 2 3 0 0 9 ∷ [])
+    (at 1 0 2 ∷ (0 ∷ 0 ∷ 1 ∷ []) ∷ (0 ∷ 0 ∷ 1 ∷ 999 ∷ []) ∷ (0 ∷ 2 ∷ 1 ∷ 2 ∷ 1 ∷ 2 ∷ 2 ∷ 999 ∷ []) ∷ (0 ∷ 2 ∷ 0 ∷ 3 ∷ 1 ∷ 3 ∷ 2 ∷ []) ∷ (0 ∷ 0 ∷ 0 ∷ replicate 4 999)
+    ∷ (0 ∷ 3 ∷ 0 ∷ 2 ∷ 1 ∷ 3 ∷ 1 ∷ 4 ∷ 1 ∷ replicate 3 999) ∷ (0 ∷ 0 ∷ 0 ∷ replicate 9 999) ∷ [])
+    -- horizon list: three words a run or 17; runs of equal release that are not adjacent stay apart
+    ∷ case 3 1 (submit 0 1 1 1 4 9 ∷ horizon 5 ∷ horizon 6 ∷ submit 0 2 1 1 2 9 ∷ submit 0 3 1 1 4 9 ∷ horizon 8 ∷ horizon 10 ∷ clock 3 ∷ horizon 9 ∷ [])
+    (at 1 0 4 ∷ refusedList 17 (replicate 5 999) ∷ (0 ∷ 2 ∷ 2 ∷ 3 ∷ 0 ∷ 1 ∷ 1 ∷ 4 ∷ []) ∷ at 2 0 2 ∷ at 3 0 4 ∷ refusedList 17 (replicate 8 999)
+    ∷ (0 ∷ 3 ∷ 2 ∷ 2 ∷ 2 ∷ 1 ∷ 1 ∷ 4 ∷ 3 ∷ 3 ∷ 4 ∷ 999 ∷ []) ∷ only 0 ∷ (0 ∷ 3 ∷ 2 ∷ 2 ∷ 3 ∷ 1 ∷ 1 ∷ 4 ∷ 3 ∷ 3 ∷ 4 ∷ []) ∷ [])
+    -- busy columns: from the start, up to and without the finish; 11 and 12
+    ∷ case 4 1 (submit 0 1 2 1 2 9 ∷ submit 1 2 3 1 4 9 ∷ busy 0 ∷ busy 1 ∷ busy 2 ∷ busy 5 ∷ busy 6 ∷ clock 1 ∷ busy 0 ∷ busy 2000000000 ∷ busy 2000000001 ∷ [])
+    (at 1 0 2 ∷ at 1 2 6 ∷ (0 ∷ 2 ∷ []) ∷ (0 ∷ 2 ∷ []) ∷ (0 ∷ 3 ∷ []) ∷ (0 ∷ 3 ∷ []) ∷ (0 ∷ 0 ∷ []) ∷ only 0 ∷ (11 ∷ 0 ∷ []) ∷ (0 ∷ 0 ∷ []) ∷ (12 ∷ 0 ∷ []) ∷ [])
+    ∷ []
+
+-- 64 columns and 64 live tasks, the task in column c with id c
+unfoldable pub filled : Board
+filled = record { tasks = map live (range 1 64); now = 0; columns = 64; rows = 1 }
+  where
+    live : ℕ → Task
+    live c = record { id = c; e = 9; d = 9; start = 0; w = 1; h = 1; column = c; phase = Running }

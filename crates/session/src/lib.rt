@@ -1,0 +1,1 @@
+// The run of a recording: definitions (specs/).

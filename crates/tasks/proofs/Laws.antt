@@ -1,0 +1,160 @@
+-- What the tests of `specs/` mean: sharing a column at a tick is Definition 1 of the source; a phase is its instants. Assumes nothing.
+use Prim.Native.Nat.{ℕ, suc, _+_, _≤_, _<_, max, min}
+use mathlib.Core.Path.{_≡_, refl, sym, ap, _∙_, subst}
+use mathlib.Core.Logic.{_⊎_, inl, inr, _↔_}
+use mathlib.Core.Bool.{Bool, true, false, not, cond, _&&_}
+use native.Mathlib.Omega.{arith}
+use native.Mathlib.Decide.{decLe, decLt}
+use lib.Dec.{T, leb, ltb, eqb, leb→le, le→leb, ltb→lt, lt→ltb, eqb→eq, not-T, T-not}
+use borrow.Author.Tests.{lt-ltb, le-ltb}
+use Rattle.lists.proofs.Bools.{and-l, and-r, and-i}
+use Rattle.tasks.specs.declared.Phase.{Phase}
+use Rattle.tasks.specs.declared.Phase.the-variants.{Ended, Waiting, Running}
+use Rattle.tasks.specs.declared.Task.{Task}
+use Rattle.tasks.specs.declared.Submission.{Submission}
+use Rattle.tasks.specs.Numbers.{within}
+use Rattle.tasks.specs.Tasks.{finish, overlap, meets, covers, holds, phaseAt, waitingPhase, runningPhase, livePhase, live, inPhase, stamped, freeSlot, zeros, booked}
+
+-- a number from lo to hi
+pub record Between (lo hi n : ℕ) : Type 0 where
+  pub low : lo ≤ n
+  pub high : n ≤ hi
+
+pub within-out : (lo hi n : ℕ) → T (within lo hi n) → Between lo hi n
+within-out lo hi n t = record { low = leb→le lo n (and-l (leb lo n) (leb n hi) t); high = leb→le n hi (and-r (leb lo n) (leb n hi) t) }
+
+pub within-in : (lo hi n : ℕ) → Between lo hi n → T (within lo hi n)
+within-in lo hi n b = and-i (leb lo n) (leb n hi) (le→leb lo n (b .low)) (le→leb n hi (b .high))
+
+-- a number that is one of the n from a on, and one of the m from b on
+pub record Common (a n b m : ℕ) : Type 0 where
+  pub it : ℕ
+  pub low₁ : a ≤ it
+  pub high₁ : it < a + n
+  pub low₂ : b ≤ it
+  pub high₂ : it < b + m
+
+pub overlap-common : (a n b m : ℕ) → T (overlap a n b m) → Common a n b m
+overlap-common a n b m t =
+    let h = ltb→lt (max a b) (min (a + n) (b + m)) t in
+    record { it = max a b; low₁ = omega arith; high₁ = omega arith; low₂ = omega arith; high₂ = omega arith }
+
+pub common-overlap : (a n b m : ℕ) → Common a n b m → T (overlap a n b m)
+common-overlap a n b m c = lt→ltb (max a b) (min (a + n) (b + m)) (omega arith)
+
+-- TWO TASKS SHARE A COLUMN AT A TICK
+pub record Share (t u : Task) : Type 0 where
+  pub column : Common (t .column) (t .w) (u .column) (u .w)
+  pub tick : Common (t .start) (t .e) (u .start) (u .e)
+
+pub meets-share : (t u : Task) → T (meets t u) → Share t u
+unfolding meets
+meets-share t u h =
+    let a = overlap (t .column) (t .w) (u .column) (u .w) in
+    let b = overlap (t .start) (t .e) (u .start) (u .e) in
+    record { column = overlap-common _ _ _ _ (and-l a b h); tick = overlap-common _ _ _ _ (and-r a b h) }
+
+pub share-meets : (t u : Task) → Share t u → T (meets t u)
+unfolding meets
+share-meets t u s =
+    and-i (overlap (t .column) (t .w) (u .column) (u .w)) (overlap (t .start) (t .e) (u .start) (u .e))
+    (common-overlap _ _ _ _ (s .column)) (common-overlap _ _ _ _ (s .tick))
+
+pub share-sym : (t u : Task) → Share t u → Share u t
+share-sym t u s = record { column = turned (s .column); tick = turned (s .tick) }
+  where
+    turned : {a n b m : ℕ} → Common a n b m → Common b m a n
+    turned c = record { it = c .it; low₁ = c .low₂; high₁ = c .high₂; low₂ = c .low₁; high₂ = c .high₁ }
+
+-- the four ways to be apart of Definition 1
+pub data Apart (t u : Task) : Type 0 where
+  left : t .column + t .w ≤ u .column → Apart t u
+  right : u .column + u .w ≤ t .column → Apart t u
+  sooner : t .start + t .e ≤ u .start → Apart t u
+  later : u .start + u .e ≤ t .start → Apart t u
+
+pub apart-clear : (t u : Task) → Apart t u → Share t u → ⊥
+apart-clear t u (left h) s = omega arith
+apart-clear t u (right h) s = omega arith
+apart-clear t u (sooner h) s = omega arith
+apart-clear t u (later h) s = omega arith
+
+-- DEFINITION 1: tasks of one column or more and one tick or more share none exactly if they are apart
+pub definition-1 : (t u : Task) → 1 ≤ t .w → 1 ≤ u .w → 1 ≤ t .e → 1 ≤ u .e → (Share t u → ⊥) → Apart t u
+definition-1 t u a b c d f =
+    step (decLe (t .column + t .w) (u .column)) (decLe (u .column + u .w) (t .column)) (decLe (t .start + t .e) (u .start)) (decLe (u .start + u .e) (t .start))
+  where
+    step : Dec (t .column + t .w ≤ u .column) → Dec (u .column + u .w ≤ t .column) → Dec (t .start + t .e ≤ u .start) → Dec (u .start + u .e ≤ t .start) → Apart t u
+    step (yes p) q r s = left p
+    step (no p) (yes q) r s = right q
+    step (no p) (no q) (yes r) s = sooner r
+    step (no p) (no q) (no r) (yes s) = later s
+    step (no p) (no q) (no r) (no s) =
+        absurd (f (record {
+          column = record { it = max (t .column) (u .column); low₁ = omega arith; high₁ = omega arith; low₂ = omega arith; high₂ = omega arith };
+          tick = record { it = max (t .start) (u .start); low₁ = omega arith; high₁ = omega arith; low₂ = omega arith; high₂ = omega arith };
+        }))
+
+-- A TASK HOLDS COLUMN c AT INSTANT i
+pub record Holds (i c : ℕ) (t : Task) : Type 0 where
+  pub started : t .start ≤ i
+  pub unfinished : i < t .start + t .e
+  pub from : t .column ≤ c
+  pub to : c < t .column + t .w
+
+pub holds-out : (i c : ℕ) (t : Task) → T (holds i c t) → Holds i c t
+unfolding holds covers
+holds-out i c t h = record {
+  started = leb→le (t .start) i (search (and-l, and-r) depth 9);
+  unfinished = ltb→lt i (t .start + t .e) (search (and-l, and-r) depth 9);
+  from = leb→le (t .column) c (search (and-l, and-r) depth 9);
+  to = ltb→lt c (t .column + t .w) (search (and-l, and-r) depth 9);
+}
+
+pub holds-in : (i c : ℕ) (t : Task) → Holds i c t → T (holds i c t)
+unfolding holds covers
+holds-in i c t h = search (and-i, le→leb, h .started, h .unfinished, h .from, h .to) depth 12
+
+pub covers-in : (c : ℕ) (t : Task) → t .column ≤ c → c < t .column + t .w → T (covers c t)
+unfolding covers
+covers-in c t l h = and-i (leb (t .column) c) (ltb c (t .column + t .w)) (le→leb _ _ l) (lt→ltb _ _ h)
+
+pub covers-out : (c : ℕ) (t : Task) → T (covers c t) → (t .column ≤ c) × (c < t .column + t .w)
+unfolding covers
+covers-out c t h = (leb→le _ _ (and-l (leb (t .column) c) (ltb c (t .column + t .w)) h), ltb→lt _ _ (and-r (leb (t .column) c) (ltb c (t .column + t .w)) h))
+
+-- THE PHASE AT AN INSTANT
+pub phase-waiting : (i : ℕ) (t : Task) → i < t .start → phaseAt i t ≡ Waiting
+unfolding phaseAt
+phase-waiting i t h = rw (lt-ltb i (t .start) h)
+
+pub phase-running : (i : ℕ) (t : Task) → t .start ≤ i → i < finish t → phaseAt i t ≡ Running
+unfolding phaseAt
+phase-running i t l h = rw (le-ltb i (t .start) l, lt-ltb i (finish t) h)
+
+pub phase-ended : (i : ℕ) (t : Task) → finish t ≤ i → phaseAt i t ≡ Ended
+unfolding phaseAt
+phase-ended i t h = let l : t .start ≤ i = omega arith in rw (le-ltb i (t .start) l, le-ltb i (finish t) h)
+
+-- "e = 0 is never running"
+pub never-running : (i : ℕ) (t : Task) → t .e ≡ 0 → phaseAt i t ≡ Running → ⊥
+unfolding phaseAt
+never-running i t z e = step (decLt i (t .start))
+  where
+    step : Dec (i < t .start) → ⊥
+    step (yes h) = let k : false ≡ true = sym (ap runningPhase (phase-waiting i t h)) ∙ ap runningPhase e in subst T (sym k) tt
+    step (no h) = let k : false ≡ true = sym (ap runningPhase (phase-ended i t (omega arith))) ∙ ap runningPhase e in subst T (sym k) tt
+
+-- a record of zeros with the phase ended is the free slot
+pub zeros-free : (t : Task) → T (zeros t) → t .phase ≡ Ended → t ≡ freeSlot
+unfolding zeros
+zeros-free t h p = λ i. record {
+  id = eqb→eq (t .id) 0 (search (and-l, and-r) depth 9) i;
+  e = eqb→eq (t .e) 0 (search (and-l, and-r) depth 9) i;
+  d = eqb→eq (t .d) 0 (search (and-l, and-r) depth 9) i;
+  start = eqb→eq (t .start) 0 (search (and-l, and-r) depth 9) i;
+  w = eqb→eq (t .w) 0 (search (and-l, and-r) depth 9) i;
+  h = eqb→eq (t .h) 0 (search (and-l, and-r) depth 9) i;
+  column = eqb→eq (t .column) 0 (search (and-l, and-r) depth 9) i;
+  phase = p i;
+}
