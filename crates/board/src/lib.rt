@@ -1,4 +1,9 @@
-// The board of document 01 and what its calls answer.
+// The board of document 01, its calls and what they answer. The calls test what they are handed and put the answer together;
+// the work is done in the crates below.
+ghost use mathlib.Core.Path.{_≡_};
+ghost use Rattle.board.specs.Refusals.{soundBoard};
+ghost use Rattle.board.specs.Calls.{freshBoard, created, clocked, withdrawn};
+ghost use Rattle.board.specs.Untested.{clockedUntested, withdrawnUntested};
 use tasks::Task;
 
 // "A board is a device of W columns and H rows, a clock called now, and at most 64 live tasks."
@@ -61,4 +66,127 @@ pub struct Counted {
     pub number: u8,
     pub count: u32,
     pub board: Board,
+}
+
+// "A new board has the W and H asked for, now 0 and 64 free slots".
+fn fresh(columns: u16, rows: u16) -> Board
+    ensures { λ r. ⌜ r ≡ freshBoard columns rows ⌝ }
+{
+    let k = tasks::free_slot();
+    let tasks = [k; 64];
+    Board {
+        tasks: tasks,
+        now: 0,
+        columns: columns,
+        rows: rows,
+    }
+}
+
+impl Board {
+    // A new board; 2 and the board of zeros where W or H is out of range.
+    pub fn new(columns: u16, rows: u16) -> Created
+        ensures { λ r. ⌜ r ≡ created columns rows ⌝ }
+    {
+        if slots::device_fits(columns, rows) {
+            let board = fresh(columns, rows);
+            return Created {
+                number: 0,
+                board: board,
+            };
+        }
+        let board = fresh(0, 0);
+        Created {
+            number: 2,
+            board: board,
+        }
+    }
+
+    // Whether the board is sound, whatever stands in it.
+    pub fn is_sound(self) -> bool
+        ensures { λ r. ⌜ r ≡ soundBoard self ⌝ }
+    {
+        let tasks = self.tasks;
+        slots::is_sound(self.columns, self.rows, self.now, tasks)
+    }
+
+    // The clock moved to an instant: 1, 11, 12.
+    pub fn clock(self, instant: u32) -> Clocked
+        ensures { λ r. ⌜ r ≡ clocked self instant ⌝ }
+    {
+        if self.is_sound() {
+            return self.clock_untested(instant);
+        }
+        Clocked {
+            number: 1,
+            board: self,
+        }
+    }
+
+    // The same for a board that is known to be sound.
+    pub fn clock_untested(self, instant: u32) -> Clocked
+        ensures { λ r. ⌜ r ≡ clockedUntested self instant ⌝ }
+    {
+        if instant < self.now {
+            return Clocked {
+                number: 11,
+                board: self,
+            };
+        }
+        if 2_000_000_000 < instant {
+            return Clocked {
+                number: 12,
+                board: self,
+            };
+        }
+        let tasks = self.tasks;
+        let aged = slots::all_aged(tasks, instant);
+        Clocked {
+            number: 0,
+            board: Board {
+                tasks: aged,
+                now: instant,
+                columns: self.columns,
+                rows: self.rows,
+            },
+        }
+    }
+
+    // A waiting task withdrawn: 1, 13, 14.
+    pub fn withdraw(self, id: u32) -> Withdrawn
+        ensures { λ r. ⌜ r ≡ withdrawn self id ⌝ }
+    {
+        if self.is_sound() {
+            return self.withdraw_untested(id);
+        }
+        Withdrawn {
+            number: 1,
+            board: self,
+        }
+    }
+
+    // The same for a board that is known to be sound.
+    pub fn withdraw_untested(mut self, id: u32) -> Withdrawn
+        ensures { λ r. ⌜ r ≡ withdrawnUntested self id ⌝ }
+    {
+        let tasks = self.tasks;
+        let slot = slots::slot_named(tasks, id);
+        if 64 <= slot {
+            return Withdrawn {
+                number: 13,
+                board: self,
+            };
+        }
+        let k = tasks[slot];
+        if tasks::is_running(k) {
+            return Withdrawn {
+                number: 14,
+                board: self,
+            };
+        }
+        self.tasks[slot] = tasks::free_slot();
+        Withdrawn {
+            number: 0,
+            board: self,
+        }
+    }
 }

@@ -8,7 +8,7 @@ use mathlib.Core.List.{List, [], _∷_, _++_, map, List·Memᴰ·head as here, L
 use native.Mathlib.Omega.{arith}
 use native.Mathlib.Decide.{ℕ-discrete as decEq}
 use lib.Dec.{T, leb, ltb, eqb, not-T, T-not}
-use lib.ListN.{length}
+use lib.ListN.{length, getD}
 use borrow.Author.Tests.{ltb-true, ltb-false, leb-true, leb-false, eqb-true, eqb-false}
 use Rattle.lists.specs.Lists.{_∈_, keep, some?, all?, head?, orElse, firstOf, putFirst, insertBy, sortBy, range, each, highest, addTo, rising}
 use Rattle.lists.proofs.Bools.{and-l, and-r, and-i, is-true, is-false, bool}
@@ -146,6 +146,11 @@ module _ {A : Type 0} where
       step : T (some? p xs) ⊎ T (not (some? p xs)) → T (some? p xs)
       step (inl s) = s
       step (inr n) = absurd (T-not (p a) (none-pass p xs n m) t)
+
+  pub getD-in : (xs : List A) (i : ℕ) (d : A) → i < length xs → getD xs i d ∈ xs
+  getD-in [] i d h = absurd (omega arith)
+  getD-in (x ∷ xs) zero d h = here refl
+  getD-in (x ∷ xs) (suc i) d h = there (getD-in xs i d (omega arith))
 
   pub length-keep : (p : A → Bool) (xs : List A) → length (keep p xs) ≤ length xs
   length-keep p [] = unfold keep in omega arith

@@ -1,5 +1,5 @@
 -- The functions on lists that the book is written with. They say nothing of boards. Assumes nothing.
-use Prim.Native.Nat.{ℕ, zero, suc, max}
+use Prim.Native.Nat.{ℕ, zero, suc, _+_, max}
 use mathlib.Core.Bool.{Bool, true, false, cond, _&&_, _||_}
 use mathlib.Core.List.{List, [], _∷_, _++_, List·Memᴰ}
 use mathlib.Core.Option.{Option, none, some}
@@ -46,6 +46,11 @@ module _ {A : Type 0} where
   unfoldable pub lastOr : A → List A → A
   lastOr d [] = d
   lastOr d (x ∷ xs) = lastOr x xs
+
+  -- where the first element that passes stands, counted from 0; the length where none does
+  unfoldable pub indexOf : (A → Bool) → List A → ℕ
+  indexOf p [] = 0
+  indexOf p (x ∷ xs) = cond (p x) 0 (indexOf p xs + 1)
 
   -- x in the place of the first element that passes; everything else stays
   unfoldable pub putFirst : (A → Bool) → A → List A → List A

@@ -3,18 +3,19 @@ use mathlib.Core.Path.{_≡_, refl}
 use mathlib.Core.List.{[], _∷_}
 use lib.Dec.{T}
 use Rattle.promises.specs.Cases.{submit, clock}
-use Rattle.lists.specs.Lists.{keep, some?, all?, pairwise?, head?, orElse, lastOr, putFirst, insertBy, sortBy, each, firstOf, range, highest, addTo, rising}
+use Rattle.lists.specs.Lists.{keep, some?, all?, pairwise?, head?, orElse, lastOr, indexOf, putFirst, insertBy, sortBy, each, firstOf, range, highest, addTo, rising}
 use Rattle.ways.specs.Ways.{isOpen, pairsIn, openingsIn, after, openingsAfter, askedOn}
-use Rattle.tasks.specs.Numbers.{deviceFits, sizeFits, timeFits}
 use Rattle.tasks.specs.Tasks.{meets, covers, holds, phaseAt, stamped, zeros, booked}
 use Rattle.columns.specs.Columns.{join, runs, bestFit}
 use Rattle.planners.specs.Openings.{ways, full}
 use Rattle.planners.specs.Planners.{free, release, visited, clearOfWaiting, candidates, releasedEdges, reference, horizon, stuffing, planned}
 use Rattle.slots.specs.Slots.{agree, taskSound, slotSound, together, sound, named, known, withBooked, agedTo, allAgedTo, withoutNamed, runsNamed}
+use Rattle.slots.specs.Survey.{clashAt}
 use Rattle.lookups.specs.Lookups.{horizonList, stripWords, busyColumns}
 use Rattle.board.specs.Answers.{told}
 use Rattle.board.specs.Calls.{orRefused, freshBoard, created, withTask, taken, answered, submitted, boardAt, clocked, withdrawn, remaining, pairWords, opened, openedBuffer, listed, listedBuffer, counted}
 use Rattle.board.specs.Refusals.{refusal, refusedCreate, refusedSubmit, refusedInstant, refusedWithdraw, refusedOpenings, refusedHorizon}
+use Rattle.board.specs.Untested.{clockedUntested, withdrawnAt, withdrawnUntested}
 use Rattle.events.specs.Records.{bytesOf, numberOf, kindOf, bodyOf, recordOf, wholeOr15, readFrom, written, writtenBuffer, toldRead, toldWritten}
 use Rattle.session.specs.Recording.{lineOf, outcome, linesFrom, planLines}
 use Rattle.promises.specs.Cases.{numbers, afterEvent, play, same, sameAll, passes, at, only}
@@ -23,7 +24,7 @@ use Rattle.promises.specs.ProvingSet.{played, tableWith, withClocks, fir
 
 -- every definition of the book, opened so that it computes
 open-book : Unit {0}
-unfolding keep some? all? pairwise? head? orElse lastOr putFirst insertBy sortBy each firstOf range highest addTo rising isOpen pairsIn openingsIn after openingsAfter askedOn deviceFits sizeFits timeFits meets covers holds phaseAt stamped zeros booked join runs bestFit ways full free release visited clearOfWaiting candidates releasedEdges reference horizon stuffing planned agree taskSound slotSound together sound named known withBooked agedTo allAgedTo withoutNamed runsNamed horizonList stripWords busyColumns told orRefused freshBoard created withTask taken answered submitted boardAt clocked withdrawn remaining pairWords opened openedBuffer listed listedBuffer counted refusal refusedCreate refusedSubmit refusedInstant refusedWithdraw refusedOpenings refusedHorizon bytesOf numberOf kindOf bodyOf recordOf wholeOr15 readFrom written writtenBuffer toldRead toldWritten lineOf outcome linesFrom planLines numbers afterEvent play same sameAll passes at only refusedList edgeSet filled played tableWith withClocks firstSix seven listing provingSet twoRuns waitingAhead tellingSet listingEvents listingLines recording
+unfolding keep some? all? pairwise? head? orElse lastOr indexOf putFirst insertBy sortBy each firstOf range highest addTo rising isOpen pairsIn openingsIn after openingsAfter askedOn meets covers holds phaseAt stamped zeros booked join runs bestFit ways full free release visited clearOfWaiting candidates releasedEdges reference horizon stuffing planned agree taskSound slotSound together sound named known withBooked agedTo allAgedTo withoutNamed runsNamed clashAt horizonList stripWords busyColumns told orRefused freshBoard created withTask taken answered submitted boardAt clocked withdrawn remaining pairWords opened openedBuffer listed listedBuffer counted refusal refusedCreate refusedSubmit refusedInstant refusedWithdraw refusedOpenings refusedHorizon clockedUntested withdrawnAt withdrawnUntested bytesOf numberOf kindOf bodyOf recordOf wholeOr15 readFrom written writtenBuffer toldRead toldWritten lineOf outcome linesFrom planLines numbers afterEvent play same sameAll passes at only refusedList edgeSet filled played tableWith withClocks firstSix seven listing provingSet twoRuns waitingAhead tellingSet listingEvents listingLines recording
 open-book = tt
 
 -- CASES 1 TO 9 OF DOCUMENT 01

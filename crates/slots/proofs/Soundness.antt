@@ -2,7 +2,7 @@
 use Prim.Native.Nat.{ℕ, suc, _+_, _≤_, _<_}
 use mathlib.Core.Path.{_≡_, refl, sym, ap, _∙_, subst}
 use mathlib.Core.Logic.{_⊎_, inl, inr}
-use mathlib.Core.Bool.{Bool, true, false, not, cond, _&&_}
+use mathlib.Core.Bool.{Bool, true, false, not, cond, _&&_, _||_}
 use mathlib.Core.List.{List, [], _∷_, List·Memᴰ·head as here, List·Memᴰ·tail as there}
 use native.Mathlib.Omega.{arith}
 use lib.Dec.{T, leb, ltb, eqb, leb→le, le→leb, ltb→lt, lt→ltb, nleb→lt, eqb→eq, eqb-refl, not-T, T-not}
@@ -14,7 +14,7 @@ use Rattle.lists.proofs.Order.{Sorted, empty, next}
 use Rattle.tasks.specs.declared.Phase.{Phase}
 use Rattle.tasks.specs.declared.Phase.the-variants.{Ended, Waiting, Running}
 use Rattle.tasks.specs.declared.Task.{Task}
-use Rattle.tasks.specs.Numbers.{within, deviceFits, sizeFits, timeFits}
+use Rattle.tasks.specs.Numbers.{within}
 use Rattle.tasks.specs.Tasks.{finish, meets, livePhase, runningPhase, live, freeSlot, zeros}
 use Rattle.tasks.proofs.Laws.{Between, within-out, within-in, Share, meets-share, share-meets, zeros-free}
 use Rattle.slots.specs.Slots.{liveIn, agree, taskSound, slotSound, together, sound}
@@ -71,7 +71,7 @@ in-phase-live now k (running e h) = rw e tt
 in-phase-live now k (waiting e h) = rw e tt
 
 pub task-out : (W H now : ℕ) (k : Task) → T (live k) → T (taskSound W H now k) → SoundTask W H now k
-unfolding taskSound sizeFits timeFits
+unfolding taskSound
 task-out W H now k l s = record {
   id = within-out 1 4294967295 (k .id) (search (and-l, and-r) depth 12);
   w = within-out 1 W (k .w) (search (and-l, and-r) depth 12);
@@ -86,7 +86,7 @@ task-out W H now k l s = record {
 }
 
 pub task-in : (W H now : ℕ) (k : Task) → SoundTask W H now k → T (taskSound W H now k)
-unfolding taskSound sizeFits timeFits
+unfolding taskSound
 task-in W H now k s =
     let p = phase-in now k (s .phase) in
     search (and-i, within-in, le→leb, s .id, s .w, s .h, s .e, p) depth 14
@@ -125,7 +125,7 @@ ended Running t = absurd t
 
 -- THE TEST DECIDES SOUNDNESS
 pub sound-out : (W H now : ℕ) (ks : List Task) → T (sound W H now ks) → Sound W H now ks
-unfolding sound deviceFits slotSound
+unfolding sound slotSound
 sound-out W H now ks s = record {
   columns = within-out 1 256 W (search (and-l, and-r) depth 12);
   rows = within-out 1 1024 H (search (and-l, and-r) depth 12);
@@ -140,7 +140,7 @@ sound-out W H now ks s = record {
     each k m = all-pass (slotSound W H now) ks (search (and-l, and-r) depth 12) m
 
 pub sound-in : (W H now : ℕ) (ks : List Task) → Sound W H now ks → T (sound W H now ks)
-unfolding sound deviceFits slotSound zeros
+unfolding sound slotSound zeros
 sound-in W H now ks s =
     let slots : T (eqb (length ks) 64) = rw (s .slots) tt in
     let every = pass-all (slotSound W H now) ks each in
@@ -153,3 +153,11 @@ sound-in W H now ks s =
 
     each : (k : Task) → k ∈ ks → T (slotSound W H now k)
     each k m = step k m (live k) refl
+
+-- two tests that agree are both true or both false
+pub agree-either : (a b : Bool) → agree a b ≡ ((a && b) || (not a && not b))
+unfolding agree
+agree-either true true = refl
+agree-either true false = refl
+agree-either false true = refl
+agree-either false false = refl

@@ -7,7 +7,7 @@ use native.Mathlib.Omega.{arith}
 use native.Mathlib.Decide.{decLe, decLt}
 use lib.Dec.{T, leb, ltb, eqb, leb→le, le→leb, ltb→lt, lt→ltb, eqb→eq, not-T, T-not}
 use borrow.Author.Tests.{lt-ltb, le-ltb}
-use Rattle.lists.proofs.Bools.{and-l, and-r, and-i}
+use Rattle.lists.proofs.Bools.{and-l, and-r, and-i, same-bool}
 use Rattle.tasks.specs.declared.Phase.{Phase}
 use Rattle.tasks.specs.declared.Phase.the-variants.{Ended, Waiting, Running}
 use Rattle.tasks.specs.declared.Task.{Task}
@@ -41,6 +41,16 @@ overlap-common a n b m t =
 
 pub common-overlap : (a n b m : ℕ) → Common a n b m → T (overlap a n b m)
 common-overlap a n b m c = lt→ltb (max a b) (min (a + n) (b + m)) (omega arith)
+
+-- two stretches that are not empty overlap exactly if each begins before the other ends
+pub overlap-either : (a n b m : ℕ) → 1 ≤ n → 1 ≤ m → overlap a n b m ≡ (ltb a (b + m) && ltb b (a + n))
+overlap-either a n b m p q =
+    same-bool (overlap a n b m) (ltb a (b + m) && ltb b (a + n))
+    (λ t. let h = ltb→lt (max a b) (min (a + n) (b + m)) t in and-i (ltb a (b + m)) (ltb b (a + n)) (lt→ltb a (b + m) (omega arith)) (lt→ltb b (a + n) (omega arith)))
+    (λ t.
+    let h = ltb→lt a (b + m) (and-l (ltb a (b + m)) (ltb b (a + n)) t) in
+    let k = ltb→lt b (a + n) (and-r (ltb a (b + m)) (ltb b (a + n)) t) in
+    lt→ltb (max a b) (min (a + n) (b + m)) (omega arith))
 
 -- TWO TASKS SHARE A COLUMN AT A TICK
 pub record Share (t u : Task) : Type 0 where
@@ -158,3 +168,9 @@ zeros-free t h p = λ i. record {
   column = eqb→eq (t .column) 0 (search (and-l, and-r) depth 9) i;
   phase = p i;
 }
+
+-- only waiting is waiting
+pub waits-only : (p : Phase) → T (waitingPhase p) → p ≡ Waiting
+waits-only Ended t = absurd t
+waits-only Waiting t = refl
+waits-only Running t = absurd t

@@ -32,13 +32,13 @@ abbrev pub within : ℕ → ℕ → ℕ → Bool
 within lo hi n = leb lo n && leb n hi
 
 -- "W 1 to 256; H 1 to 1,024"
-unfoldable pub deviceFits : ℕ → ℕ → Bool
+abbrev pub deviceFits : ℕ → ℕ → Bool
 deviceFits W H = within 1 mostColumns W && within 1 mostRows H
 
 -- "Width 1 to W; height 1 to H"
-unfoldable pub sizeFits : ℕ → ℕ → ℕ → ℕ → Bool
+abbrev pub sizeFits : ℕ → ℕ → ℕ → ℕ → Bool
 sizeFits W H w h = within 1 W w && within 1 H h
 
 -- "execution e 1 to 1,000,000; deadline d .. 0 to 2,000,000,000"
-unfoldable pub timeFits : ℕ → ℕ → Bool
+abbrev pub timeFits : ℕ → ℕ → Bool
 timeFits e d = within 1 longest e && leb d lastInstant

@@ -1,4 +1,7 @@
 // The task's own record: what a slot of the board holds, and what a submission asks for.
+ghost use mathlib.Core.Path.{_≡_};
+ghost use Rattle.tasks.specs.Numbers.{sizeFits, timeFits};
+ghost use Rattle.tasks.specs.Tasks.{live, runningPhase, stamped, freeSlot, zeros};
 
 // "each record carries its phase: waiting, running or ended". Ended is first: a free slot is then all zeros.
 pub enum Phase {
@@ -26,4 +29,91 @@ pub struct Submission {
     pub d: u32,
     pub w: u16,
     pub h: u16,
+}
+
+// Waiting or running.
+pub fn is_live(k: Task) -> bool
+    ensures { λ r. ⌜ r ≡ live k ⌝ }
+{
+    let phase = k.phase;
+    match phase {
+        Phase::Ended => false,
+        Phase::Waiting => true,
+        Phase::Running => true,
+    }
+}
+
+pub fn is_running(k: Task) -> bool
+    ensures { λ r. ⌜ r ≡ runningPhase (k .phase) ⌝ }
+{
+    let phase = k.phase;
+    match phase {
+        Phase::Ended => false,
+        Phase::Waiting => false,
+        Phase::Running => true,
+    }
+}
+
+// Zeros and the phase ended.
+pub fn free_slot() -> Task
+    ensures { λ r. ⌜ r ≡ freeSlot ⌝ }
+{
+    Task {
+        id: 0,
+        e: 0,
+        d: 0,
+        start: 0,
+        w: 0,
+        h: 0,
+        column: 0,
+        phase: Phase::Ended,
+    }
+}
+
+pub fn is_zeros(k: Task) -> bool
+    ensures { λ r. ⌜ r ≡ zeros k ⌝ }
+{
+    (k.id == 0)
+        & (k.e == 0)
+        & (k.d == 0)
+        & (k.start == 0)
+        & (k.w == 0)
+        & (k.h == 0)
+        & (k.column == 0)
+}
+
+// The record with the phase that it has at an instant.
+pub fn stamp(k: Task, instant: u32) -> Task
+    ensures { λ r. ⌜ r ≡ stamped instant k ⌝ }
+{
+    let mut phase = Phase::Ended;
+    if instant < k.start {
+        phase = Phase::Waiting;
+    } else if (instant as u64) < k.start as u64 + k.e as u64 {
+        phase = Phase::Running;
+    }
+    Task {
+        id: k.id,
+        e: k.e,
+        d: k.d,
+        start: k.start,
+        w: k.w,
+        h: k.h,
+        column: k.column,
+        phase: phase,
+    }
+}
+
+// "Width 1 to W; height 1 to H".
+pub fn size_fits(columns: u16, rows: u16, w: u16, h: u16) -> bool
+    ensures { λ r. ⌜ r ≡ sizeFits columns rows w h ⌝ }
+{
+    ((1 <= w) & (w <= columns)) & ((1 <= h) & (h <= rows))
+}
+
+// "execution e 1 to 1,000,000; deadline d .. 0 to 2,000,000,000".
+pub fn time_fits(e: u32, d: u32) -> bool
+    ensures { λ r. ⌜ r ≡ timeFits e d ⌝ }
+{
+    ((1 <= e) & (e <= 1_000_000)) & (d <= 2_000_000_000)
 }

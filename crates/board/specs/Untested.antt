@@ -1,0 +1,32 @@
+-- The calls of a recording's run, without the test of refusal 1: what they answer for every board. No public promise cites them. Assumes nothing.
+use Prim.Native.Nat.{ℕ}
+use mathlib.Core.Bool.{cond}
+use mathlib.Core.List.{[], _∷_}
+use lib.Dec.{ltb}
+use lib.ListN.{getD, set}
+use Rattle.lists.specs.Lists.{indexOf}
+use Rattle.tasks.specs.Numbers.{mostTasks}
+use Rattle.tasks.specs.Tasks.{runningPhase, freeSlot}
+use Rattle.slots.specs.Slots.{named}
+use Rattle.board.specs.declared.Board.{Board}
+use Rattle.board.specs.declared.Clocked.{Clocked}
+use Rattle.board.specs.declared.Withdrawn.{Withdrawn}
+use Rattle.board.specs.Refusals.{refusal, passed, beyond}
+use Rattle.board.specs.Calls.{orRefused, withTasks, boardAt}
+
+-- the clock after test 1
+unfoldable pub clockedUntested : Board → ℕ → Clocked
+clockedUntested b i =
+    orRefused (refusal (passed b i ∷ beyond i ∷ [])) (λ k. record { number = k; board = b }) (record { number = 0; board = boardAt b i })
+
+-- withdrawal of the task in a slot
+unfoldable pub withdrawnAt : Board → ℕ → Withdrawn
+withdrawnAt b i =
+    cond (ltb i mostTasks)
+    (cond (runningPhase (getD (b .tasks) i freeSlot .phase)) (record { number = 14; board = b })
+    (record { number = 0; board = withTasks b (set (b .tasks) i freeSlot) }))
+    (record { number = 13; board = b })
+
+-- withdrawal after test 1: of the first live task of that id
+unfoldable pub withdrawnUntested : Board → ℕ → Withdrawn
+withdrawnUntested b n = withdrawnAt b (indexOf (named n) (b .tasks))
