@@ -1,1 +1,5 @@
+pub mod Fields
+pub mod Found
+pub mod Writing
 pub mod RoundTrip
+pub mod Calls

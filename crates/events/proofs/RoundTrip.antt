@@ -1,20 +1,17 @@
 -- What was written reads back as the same event and length, whatever follows it; what was read, written again, gives the same bytes. Assumes nothing.
 use Prim.Native.Nat.{ℕ, zero, suc, _+_, _*_, _/_, _%_, _^_, _≤_, _<_}
 use mathlib.Core.Path.{_≡_, refl, sym, ap, ap₂, _∙_, subst}
-use mathlib.Core.Bool.{Bool, true, false, cond}
 use mathlib.Core.List.{List, [], _∷_, _++_}
 use native.Mathlib.Omega.{arith}
 use native.Mathlib.Nat.{pow-suc}
-use lib.Dec.{T, leb, ltb, eqb}
 use lib.ListN.{length, take, drop, getD}
 use lib.Seq.{take-add, drop-drop}
-use borrow.Author.Tests.{le-ltb, ltb-false, eqb-true}
 use Rattle.tasks.specs.declared.Submission.{Submission}
 use Rattle.events.specs.declared.Event.{Event}
 use Rattle.events.specs.declared.Event.the-variants.{NewBoard, Submit, Clock, Withdraw}
-use Rattle.events.specs.declared.Read.{Read}
-use Rattle.events.specs.declared.Read.the-variants.{End, Got, CutShort, Unknown}
-use Rattle.events.specs.Records.{bytesOf, numberOf, field, kindOf, bodyOf, recordOf, newBoardIn, submitIn, clockIn, withdrawIn, wholeOr15, readFrom}
+use Rattle.events.specs.declared.Reading.the-variants.{Got}
+use Rattle.events.specs.Records.{bytesOf, numberOf, field, kindOf, bodyOf, recordOf, newBoardIn, submitIn, clockIn, withdrawIn, readFrom}
+use Rattle.events.proofs.Found.{Known, new-board, submit, clock, withdraw, whole, Taken, taken, got-taken}
 
 -- a number of n bytes is the number of its n bytes
 pub number-bytes : (n x : ℕ) → x < 256 ^ n → numberOf (bytesOf n x) ≡ x
@@ -59,11 +56,6 @@ pub data Fits : Event → Type 0 where
   submission : {n : ℕ} {a : Submission} → n < 256 ^ 1 → SubmissionFits a → Fits (Submit n a)
   instant : {i : ℕ} → i < 256 ^ 4 → Fits (Clock i)
   name : {n : ℕ} → n < 256 ^ 4 → Fits (Withdraw n)
-
--- a body that is there is read
-whole : (kind n : ℕ) (body : List ℕ) (v : Event) → n ≤ length body → wholeOr15 kind n body v ≡ Got v (suc n)
-unfolding wholeOr15
-whole kind n body v h = rw (le-ltb (length body) n h)
 
 -- WHAT WAS WRITTEN READS BACK as the same event and length, whatever follows it
 pub read-written : (v : Event) → Fits v → (rest : List ℕ) → readFrom (recordOf v ++ rest) ≡ Got v (length (recordOf v))
@@ -111,33 +103,17 @@ withdraw-again : body-again withdrawIn 4
 unfolding body-again bodyOf
 withdraw-again l h k = field-bytes 0 4 l h k
 
--- what a reading of a whole body says
-data Taken (kind n : ℕ) (body : List ℕ) (v : Event) (u : Event) (size : ℕ) : Type 0 where
-  taken : n ≤ length body → u ≡ v → size ≡ suc n → Taken kind n body v u size
-
-whole-taken : (kind n : ℕ) (body : List ℕ) (v u : Event) (size : ℕ) → wholeOr15 kind n body v ≡ Got u size → Taken kind n body v u size
-unfolding wholeOr15
-whole-taken kind n body v u size e = go (ltb (length body) n) refl e
-  where
-    go : (b : Bool) → ltb (length body) n ≡ b → cond b (CutShort kind) (Got v (suc n)) ≡ Got u size → Taken kind n body v u size
-    go true q k = absurd (let z : _≡_ {A = ℕ} 0 1 = cc in omega arith)
-    go false q k = taken (ltb-false (length body) n q) (cc) (cc)
+-- an event has its kind's byte, and the body it was read from
+kind-again : {kind n : ℕ} {f : List ℕ → Event} → Known kind n f → (l : List ℕ) → Bytes l → n ≤ length l → recordOf (f l) ≡ kind ∷ take n l
+unfolding recordOf kindOf body-again
+kind-again new-board l h k = ap (λ x. 1 ∷ x) (new-board-again l h k)
+kind-again submit l h k = ap (λ x. 2 ∷ x) (submit-again l h k)
+kind-again clock l h k = ap (λ x. 3 ∷ x) (clock-again l h k)
+kind-again withdraw l h k = ap (λ x. 4 ∷ x) (withdraw-again l h k)
 
 -- WHAT WAS READ, WRITTEN AGAIN, gives the bytes that were taken
 pub written-again : (l : List ℕ) → Bytes l → (v : Event) (size : ℕ) → readFrom l ≡ Got v size → recordOf v ≡ take size l
-unfolding readFrom recordOf kindOf body-again
-written-again [] h v size e = absurd (let z : _≡_ {A = ℕ} 0 1 = cc in omega arith)
-written-again (kind ∷ body) h v size e = by (eqb kind 1) refl (eqb kind 2) refl (eqb kind 3) refl (eqb kind 4) refl e
+written-again l h v size e = of h (got-taken l v size e)
   where
-    again : (n : ℕ) (f : List ℕ → Event) → kind ≡ kindOf (f body) → body-again f n → Taken kind n body (f body) v size → recordOf v ≡ take size (kind ∷ body)
-    again n f z g (taken m q r) =
-        ap recordOf q ∙ ap₂ (λ x xs. x ∷ xs) (sym z) (g body (λ i. h (suc i)) m) ∙ sym (ap (λ x. take x (kind ∷ body)) r)
-
-    by : (a : Bool) → eqb kind 1 ≡ a → (b : Bool) → eqb kind 2 ≡ b → (c : Bool) → eqb kind 3 ≡ c → (d : Bool) → eqb kind 4 ≡ d
-        → cond a (wholeOr15 kind 4 body (newBoardIn body)) (cond b (wholeOr15 kind 17 body (submitIn body)) (cond c (wholeOr15 kind 4 body (clockIn body)) (cond d (wholeOr15 kind 4 body (withdrawIn body)) (Unknown kind)))) ≡ Got v size
-        → recordOf v ≡ take size (kind ∷ body)
-    by true z b y c x d w k = again 4 newBoardIn (eqb-true kind 1 z) new-board-again (whole-taken kind 4 body (newBoardIn body) v size k)
-    by false z true y c x d w k = again 17 submitIn (eqb-true kind 2 y) submit-again (whole-taken kind 17 body (submitIn body) v size k)
-    by false z false y true x d w k = again 4 clockIn (eqb-true kind 3 x) clock-again (whole-taken kind 4 body (clockIn body) v size k)
-    by false z false y false x true w k = again 4 withdrawIn (eqb-true kind 4 w) withdraw-again (whole-taken kind 4 body (withdrawIn body) v size k)
-    by false z false y false x false w k = absurd (let o : _≡_ {A = ℕ} 0 1 = cc in omega arith)
+    of : {l : List ℕ} {v : Event} {size : ℕ} → Bytes l → Taken l v size → recordOf v ≡ take size l
+    of h (taken k m) = kind-again k _ (λ i. h (suc i)) m

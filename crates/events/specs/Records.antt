@@ -8,8 +8,8 @@ use Rattle.lists.specs.Lists.{overFront}
 use Rattle.tasks.specs.declared.Submission.{Submission}
 use Rattle.events.specs.declared.Event.{Event}
 use Rattle.events.specs.declared.Event.the-variants.{NewBoard, Submit, Clock, Withdraw}
-use Rattle.events.specs.declared.Read.{Read}
-use Rattle.events.specs.declared.Read.the-variants.{End, Got, CutShort, Unknown}
+use Rattle.events.specs.declared.Reading.{Reading}
+use Rattle.events.specs.declared.Reading.the-variants.{End, Got, CutShort, Unknown}
 use Rattle.events.specs.declared.Written.{Written}
 use Rattle.events.specs.declared.Written.the-variants.{NoRoom, Length}
 
@@ -67,11 +67,11 @@ abbrev pub withdrawIn : List ℕ → Event
 withdrawIn body = Withdraw (field 0 4 body)
 
 -- "a known kind with too few bytes is 15": the event and the bytes it took, where its n bytes of body are there
-unfoldable pub wholeOr15 : ℕ → ℕ → List ℕ → Event → Read
+unfoldable pub wholeOr15 : ℕ → ℕ → List ℕ → Event → Reading
 wholeOr15 kind n body v = cond (ltb (length body) n) (CutShort kind) (Got v (suc n))
 
 -- THE READER: "No kind byte left is the end"; an unknown kind byte is 16; it judges no field value
-unfoldable pub readFrom : List ℕ → Read
+unfoldable pub readFrom : List ℕ → Reading
 readFrom [] = End
 readFrom (kind ∷ body) =
     cond (eqb kind 1) (wholeOr15 kind 4 body (newBoardIn body))
@@ -94,7 +94,7 @@ pub record ToldRead : Type 0 where
   pub taken : ℕ
 
 -- "No kind byte left is the end, no refusal, 0 bytes taken"; "With 15 and 16 come the kind byte, no event and 0 bytes taken"
-unfoldable pub toldRead : Read → ToldRead
+unfoldable pub toldRead : Reading → ToldRead
 toldRead End = record { number = 0; kind = 0; taken = 0 }
 toldRead (Got v n) = record { number = 0; kind = kindOf v; taken = n }
 toldRead (CutShort k) = record { number = 15; kind = k; taken = 0 }

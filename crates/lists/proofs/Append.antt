@@ -6,10 +6,10 @@ use mathlib.Core.Bool.{Bool, true, false, not, cond, _&&_, _||_}
 use mathlib.Core.List.{List, [], _∷_, _++_, map, append-nil, append-assoc, map-append}
 use native.Mathlib.Omega.{arith}
 use native.Mathlib.Numerals.{add-one}
-use lib.Dec.{T, ltb, leb·suc-suc}
+use lib.Dec.{T, ltb, leb·suc-suc, T-not}
 use borrow.Author.Tests.{lt-ltb}
-use lib.ListN.{length, take, drop, set, getD, List·getD-map, length-map, drop-of-length-le}
-use lib.Seq.{take-suc, take-all, length-take-le, drop-cons, take-suc-set, take-set-le, getD-take, set-at, getD-at}
+use lib.ListN.{length, take, drop, set, getD, List·getD-map, length-map, length-set, drop-of-length-le}
+use lib.Seq.{take-suc, take-all, length-take-le, drop-cons, take-suc-set, take-set-le, getD-take, getD-set-same, getD-set-other, set-at, getD-at}
 use Rattle.lists.specs.Lists.{keep, some?, all?, pairwise?, indexOf, putFirst, range}
 use Rattle.lists.proofs.Bools.{bool}
 use Rattle.lists.proofs.Members.{keep-yes, keep-no}
@@ -186,3 +186,14 @@ index-passes {A} p (y ∷ ys) d h = step (p y) refl (λ k. index-passes p ys d k
     step : (b : Bool) → p y ≡ b → (indexOf p ys < length ys → T (p (getD ys (indexOf p ys) d))) → cond b 0 (indexOf p ys + 1) < suc (length ys) → T (p (getD (y ∷ ys) (cond b 0 (indexOf p ys + 1)) d))
     step true e below k = rw e tt
     step false e below k = subst (λ n. T (p (getD (y ∷ ys) n d))) (sym (add-one (indexOf p ys))) (below (omega arith))
+
+-- what is put stands at the first that passed, and an element that does not pass stays where it is
+pub put-there : {A : Type 0} (p : A → Bool) (x : A) (l : List A) (d : A) → indexOf p l < length l → getD (putFirst p x l) (indexOf p l) d ≡ x
+put-there p x l d h = ap (λ m. getD m (indexOf p l) d) (put-index p x l) ∙ getD-set-same l (indexOf p l) x d h
+
+pub put-keeps : {A : Type 0} (p : A → Bool) (x : A) (l : List A) (i : ℕ) (d : A) → i < length l → T (not (p (getD l i d))) → getD (putFirst p x l) i d ≡ getD l i d
+put-keeps p x l i d h t =
+    ap (λ m. getD m i d) (put-index p x l) ∙ getD-set-other l (indexOf p l) i x d (λ e. T-not (p (getD l i d)) t (subst (λ n. T (p (getD l n d))) (sym e) (index-passes p l d (subst (λ n. n < length l) e h))))
+
+pub length-put : {A : Type 0} (p : A → Bool) (x : A) (l : List A) → length (putFirst p x l) ≡ length l
+length-put p x l = ap length (put-index p x l) ∙ length-set l (indexOf p l) x

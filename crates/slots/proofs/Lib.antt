@@ -1,3 +1,5 @@
 pub mod Soundness
 pub mod Passed
 pub mod Pairs
+pub mod Ageing
+pub mod Booking

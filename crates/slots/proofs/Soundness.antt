@@ -66,7 +66,7 @@ unfolding agree
 phase-in now k (running e h) = rw e (le→leb (k .start) now h)
 phase-in now k (waiting e h) = rw e (not-T (leb (k .start) now) (λ t. let z = leb→le (k .start) now t in omega arith))
 
-in-phase-live : (now : ℕ) (k : Task) → InPhase now k → T (live k)
+pub in-phase-live : (now : ℕ) (k : Task) → InPhase now k → T (live k)
 in-phase-live now k (running e h) = rw e tt
 in-phase-live now k (waiting e h) = rw e tt
 

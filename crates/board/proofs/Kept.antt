@@ -1,0 +1,344 @@
+-- A sound board stays sound under every call; nothing moves; a refused call hands back the same board. Assumes nothing.
+use Prim.Native.Nat.{ℕ, zero, suc, _+_, _≤_, _<_}
+use mathlib.Core.Path.{_≡_, refl, sym, ap, _∙_, subst}
+use mathlib.Core.Logic.{_⊎_, inl, inr}
+use mathlib.Core.Bool.{Bool, true, false, not, _&&_}
+use mathlib.Core.List.{List, [], _∷_, map}
+use mathlib.Core.Option.{Option, none, some}
+use native.Mathlib.Omega.{arith}
+use native.Mathlib.Decide.{decLe, decLt}
+use lib.Dec.{T, leb, ltb, eqb, leb→le, ltb→lt, nltb→le, nleb→lt, eqb→eq, eqb-refl, not-T, T-not}
+use borrow.Author.Tests.{le-ltb}
+use lib.ListN.{length, getD, replicate, length-replicate, getD-replicate, List·getD-map}
+use Rattle.lists.specs.Lists.{_∈_, keep, all?, pairwise?, indexOf}
+use Rattle.lists.proofs.Bools.{and-l, and-r, and-i, bool, not-not, is-true}
+use Rattle.lists.proofs.Members.{in-keep, none-pass, pass-some, getD-in}
+use Rattle.lists.proofs.Order.{sorted-at}
+use Rattle.lists.proofs.Append.{index-test, index-passes}
+use Rattle.ways.specs.Ways.{Pair}
+use Rattle.tasks.specs.declared.Task.{Task}
+use Rattle.tasks.specs.declared.Submission.{Submission}
+use Rattle.tasks.specs.Numbers.{within, deviceFits, sizeFits, timeFits}
+use Rattle.tasks.specs.Tasks.{finish, live, runningPhase, stamped, freeSlot, zeros, booked}
+use Rattle.tasks.proofs.Laws.{Between, within-out, Share}
+use Rattle.planners.specs.Openings.{Place}
+use Rattle.planners.specs.Planners.{planned}
+use Rattle.planners.proofs.Openings.{Opening}
+use Rattle.planners.proofs.Planners.{planned-opens}
+use Rattle.slots.specs.Slots.{slotSound, sound, named, known, runsNamed, withBooked, agedTo, allAgedTo, withoutNamed}
+use Rattle.slots.proofs.Soundness.{InPhase, running, waiting, SoundTask, Together, Sound, sound-out, sound-in}
+use Rattle.slots.proofs.Ageing.{stamped-live, stamped-phase, aged-free, aged-ended, aged-stands, aged-sound, aged-now, aged-twice}
+use Rattle.slots.proofs.Booking.{booked-sound, withdrawn-sound, booked-keeps, withdrawn-keeps, withdrawn-free}
+use Rattle.board.specs.declared.Board.{Board}
+use Rattle.board.specs.declared.Answer.{Answer}
+use Rattle.board.specs.declared.Answer.the-variants.{Rejected, Placed, Refused}
+use Rattle.board.specs.declared.Submitted.{Submitted}
+use Rattle.board.specs.declared.Clocked.{Clocked}
+use Rattle.board.specs.declared.Withdrawn.{Withdrawn}
+use Rattle.board.specs.Refusals.{refusal, liveOf, soundBoard, passed, beyond, refusedSubmit, refusedInstant, refusedWithdraw, refusedCreate}
+use Rattle.board.specs.Calls.{orRefused, withTasks, freshBoard, zeroBoard, created, withTask, taken, answered, submitted, boardAt, clocked, withdrawn}
+use Rattle.board.proofs.Refusals.{none-holds, passed-over, sound-passes}
+
+-- a sound board, clause by clause
+abbrev pub SoundBoard : Board → Type 0
+SoundBoard b = Sound (b .columns) (b .rows) (b .now) (b .tasks)
+
+-- what stands in slot i
+abbrev pub slotAt : Board → ℕ → Task
+slotAt b i = getD (b .tasks) i freeSlot
+
+-- WHAT A SUBMISSION THAT IS NOT REFUSED BRINGS
+pub record Accepted (b : Board) (n : ℕ) (a : Submission) : Type 0 where
+  pub sound : SoundBoard b
+  pub planner : n ≤ 3
+  pub id : 1 ≤ a .id
+  pub w : Between 1 (b .columns) (a .w)
+  pub h : Between 1 (b .rows) (a .h)
+  pub e : Between 1 1000000 (a .e)
+  pub d : a .d ≤ 2000000000
+  pub new : (l : Task) → l ∈ b .tasks → T (live l) → l .id ≡ a .id → ⊥
+  pub reachable : b .now + a .e ≤ a .d
+  pub room : length (liveOf b) < 64
+
+pub submit-accepted : (b : Board) (n : ℕ) (a : Submission) → refusedSubmit b n a ≡ 0 → Accepted b n a
+unfolding refusedSubmit known named
+submit-accepted b n a e =
+    let r1 = none-holds 1 _ _ (omega arith) e in
+    let r3 = none-holds 3 _ _ (omega arith) (r1 .1) in
+    let r4 = none-holds 4 _ _ (omega arith) (r3 .1) in
+    let r5 = none-holds 5 _ _ (omega arith) (r4 .1) in
+    let r6 = none-holds 6 _ _ (omega arith) (r5 .1) in
+    let r7 = none-holds 7 _ _ (omega arith) (r6 .1) in
+    let r8 = none-holds 8 _ _ (omega arith) (r7 .1) in
+    let r9 = none-holds 9 _ _ (omega arith) (r8 .1) in
+    let five = not-not (sizeFits (b .columns) (b .rows) (a .w) (a .h)) (r5 .0) in
+    let six = not-not (timeFits (a .e) (a .d)) (r6 .0) in
+    record {
+      sound = sound-out (b .columns) (b .rows) (b .now) (b .tasks) (not-not (soundBoard b) (r1 .0));
+      planner = nltb→le 3 n (r3 .0);
+      id = positive (r4 .0);
+      w = within-out 1 (b .columns) (a .w) (and-l (within 1 (b .columns) (a .w)) (within 1 (b .rows) (a .h)) five);
+      h = within-out 1 (b .rows) (a .h) (and-r (within 1 (b .columns) (a .w)) (within 1 (b .rows) (a .h)) five);
+      e = within-out 1 1000000 (a .e) (and-l (within 1 1000000 (a .e)) (leb (a .d) 2000000000) six);
+      d = leb→le (a .d) 2000000000 (and-r (within 1 1000000 (a .e)) (leb (a .d) 2000000000) six);
+      new = λ l m t q.
+          T-not (live l && eqb (l .id) (a .id)) (none-pass (λ k. live k && eqb (k .id) (a .id)) (b .tasks) (r7 .0) m)
+          (and-i (live l) (eqb (l .id) (a .id)) t (rw q (eqb-refl (a .id))));
+      reachable = nltb→le (a .d) (b .now + a .e) (r8 .0);
+      room = nleb→lt 64 (length (liveOf b)) (r9 .0);
+    }
+  where
+    positive : T (not (eqb (a .id) 0)) → 1 ≤ a .id
+    positive h = let k : a .id ≡ 0 → ⊥ = λ z. T-not (eqb (a .id) 0) h (rw z tt) in omega arith
+
+-- the record as booked is a sound task, apart from every live one
+module _ (b : Board) (n : ℕ) (a : Submission) (big : a .id ≤ 4294967295) (k : Accepted b n a) (p : Place) (o : Opening (b .columns) (b .now) (liveOf b) a p) where
+  new-task : SoundTask (b .columns) (b .rows) (b .now) (booked (b .now) a (p .start) (p .place))
+  unfolding booked stamped
+  new-task =
+      let l : b .now < p .start + a .e = omega (arith, o .from-now, k .e .low) in
+      record {
+        id = record { low = k .id; high = big };
+        w = k .w;
+        h = k .h;
+        e = k .e;
+        d = k .d;
+        from-one = o .from-one;
+        on-device = o .on-device;
+        in-time = o .in-time;
+        unfinished = l;
+        phase = unfold stamped in stamped-phase (b .now) _ l;
+      }
+
+  new-apart : (l : Task) → l ∈ b .tasks → T (live l) → Together (booked (b .now) a (p .start) (p .place)) l
+  unfolding booked stamped
+  new-apart l m t = record { ids = λ e. k .new l m t (sym e); apart = λ s. o .apart l (in-keep live m t) (s .column) (s .tick) }
+
+-- A SOUND BOARD STAYS SOUND: submission
+pub submitted-sound : (b : Board) (n : ℕ) (a : Submission) → a .id ≤ 4294967295 → SoundBoard b → SoundBoard (submitted b n a .board)
+unfolding submitted answered orRefused taken withTask
+submitted-sound b n a big s = go (refusedSubmit b n a) refl
+  where
+    place : (k : Accepted b n a) (r : Option Place) → planned (b .columns) (b .now) (liveOf b) a n ≡ r → SoundBoard (taken b a r .board)
+    place k none e = s
+    place k (some p) e =
+        let o = planned-opens (b .columns) (b .now) (liveOf b) a (k .reachable) n e in
+        booked-sound (b .columns) (b .rows) (b .now) (b .tasks) s (booked (b .now) a (p .start) (p .place)) (new-task b n a big k p o) (new-apart b n a big k p o)
+
+    go : (r : ℕ) → refusedSubmit b n a ≡ r → SoundBoard (orRefused r (λ x. record { answer = Refused x; board = b }) (taken b a (planned (b .columns) (b .now) (liveOf b) a n)) .board)
+    go zero e = place (submit-accepted b n a e) (planned (b .columns) (b .now) (liveOf b) a n) refl
+    go (suc r) e = s
+
+-- clock
+pub record Passable (b : Board) (i : ℕ) : Type 0 where
+  pub sound : SoundBoard b
+  pub from-now : b .now ≤ i
+  pub until : i ≤ 2000000000
+
+pub instant-passable : (b : Board) (i : ℕ) → refusedInstant b i ≡ 0 → Passable b i
+unfolding refusedInstant
+instant-passable b i e =
+    let r1 = none-holds 1 _ _ (omega arith) e in
+    let r11 = none-holds 11 _ _ (omega arith) (r1 .1) in
+    let r12 = none-holds 12 _ _ (omega arith) (r11 .1) in
+    record {
+      sound = sound-out (b .columns) (b .rows) (b .now) (b .tasks) (not-not (soundBoard b) (r1 .0));
+      from-now = nltb→le i (b .now) (r11 .0);
+      until = nltb→le 2000000000 i (r12 .0);
+    }
+
+pub clocked-stays-sound : (b : Board) (i : ℕ) → SoundBoard b → SoundBoard (clocked b i .board)
+unfolding clocked orRefused boardAt
+clocked-stays-sound b i s = go (refusedInstant b i) refl
+  where
+    after : ℕ → Clocked
+    after r = orRefused r (λ x. record { number = x; board = b }) (record { number = 0; board = boardAt b i })
+
+    go : (r : ℕ) → refusedInstant b i ≡ r → SoundBoard (after r .board)
+    go zero e = let k = instant-passable b i e in aged-sound (b .columns) (b .rows) (b .now) i (b .tasks) s (k .from-now) (k .until)
+    go (suc r) e = s
+
+-- withdrawal
+pub withdrawn-stays-sound : (b : Board) (n : ℕ) → SoundBoard b → SoundBoard (withdrawn b n .board)
+unfolding withdrawn orRefused
+withdrawn-stays-sound b n s = go (refusedWithdraw b n)
+  where
+    after : ℕ → Withdrawn
+    after r = orRefused r (λ x. record { number = x; board = b }) (record { number = 0; board = withTasks b (withoutNamed n (b .tasks)) })
+
+    go : (r : ℕ) → SoundBoard (after r .board)
+    go zero = withdrawn-sound (b .columns) (b .rows) (b .now) (b .tasks) s n
+    go (suc r) = s
+
+-- NOTHING MOVES. Submission: every live task stands in its slot as it was
+pub submitted-keeps : (b : Board) (n : ℕ) (a : Submission) (i : ℕ) → i < length (b .tasks) → T (live (slotAt b i)) → slotAt (submitted b n a .board) i ≡ slotAt b i
+unfolding submitted answered orRefused taken withTask
+submitted-keeps b n a i h t = go (refusedSubmit b n a) (planned (b .columns) (b .now) (liveOf b) a n)
+  where
+    go : (r : ℕ) (o : Option Place) → slotAt (orRefused r (λ x. record { answer = Refused x; board = b }) (taken b a o) .board) i ≡ slotAt b i
+    go zero none = refl
+    go zero (some p) = booked-keeps (booked (b .now) a (p .start) (p .place)) (b .tasks) i h t
+    go (suc r) o = refl
+
+-- Clock: it stands with the phase of the instant, or it has finished by the clock and its slot is exactly the free slot
+pub data Clocks (b′ : Board) (k k′ : Task) : Type 0 where
+  stands : k′ ≡ k → Clocks b′ k k′
+  phased : k′ ≡ stamped (b′ .now) k → T (live k′) → Clocks b′ k k′
+  ended : finish k ≤ b′ .now → k′ ≡ freeSlot → Clocks b′ k k′
+
+pub clocked-keeps : (b : Board) (t i : ℕ) → i < length (b .tasks) → T (live (slotAt b i)) → Clocks (clocked b t .board) (slotAt b i) (slotAt (clocked b t .board) i)
+unfolding clocked orRefused boardAt allAgedTo
+clocked-keeps b t i h l = go (refusedInstant b t)
+  where
+    k : Task
+    k = slotAt b i
+
+    there : slotAt (boardAt b t) i ≡ agedTo t k
+    there = subst (λ d. getD (map (agedTo t) (b .tasks)) i d ≡ agedTo t k) (aged-free t freeSlot tt) (List·getD-map (agedTo t) (b .tasks) i freeSlot)
+
+    step : Dec (finish k ≤ t) → Clocks (boardAt b t) k (slotAt (boardAt b t) i)
+    step (yes d) = ended d (there ∙ aged-ended t k l d)
+    step (no d) =
+        let q : t < finish k = omega arith in
+        let e : slotAt (boardAt b t) i ≡ stamped t k = there ∙ aged-stands t k l q in
+        phased e (subst (λ x. T (live x)) (sym e) (stamped-live t k q))
+
+    after : ℕ → Clocked
+    after r = orRefused r (λ x. record { number = x; board = b }) (record { number = 0; board = boardAt b t })
+
+    go : (r : ℕ) → Clocks (after r .board) k (slotAt (after r .board) i)
+    go zero = step (decLe (finish k) t)
+    go (suc r) = stands refl
+
+-- Withdrawal: it stands as it was, or it is the one that was named, it had not begun, and its slot is exactly the free slot
+pub data Withdraws (now n : ℕ) (k k′ : Task) : Type 0 where
+  stands : k′ ≡ k → Withdraws now n k k′
+  gone : k .id ≡ n → now < k .start → k′ ≡ freeSlot → Withdraws now n k k′
+
+pub withdrawn-moves-none : (b : Board) (n i : ℕ) → i < length (b .tasks) → T (live (slotAt b i)) → Withdraws (b .now) n (slotAt b i) (slotAt (withdrawn b n .board) i)
+unfolding withdrawn orRefused refusedWithdraw runsNamed named
+withdrawn-moves-none b n i h l = go (refusedWithdraw b n) refl
+  where
+    k : Task
+    k = slotAt b i
+
+    good : refusedWithdraw b n ≡ 0 → SoundBoard b
+    good e = let r1 = none-holds 1 _ _ (omega arith) e in sound-out (b .columns) (b .rows) (b .now) (b .tasks) (not-not (soundBoard b) (r1 .0))
+
+    -- ids differ, so that the slot is the first of that id
+    first : SoundBoard b → T (named n k) → indexOf (named n) (b .tasks) ≡ i
+    first s t = order (decLt (indexOf (named n) (b .tasks)) i) (decLt i (indexOf (named n) (b .tasks)))
+      where
+        j : ℕ
+        j = indexOf (named n) (b .tasks)
+
+        inside : j < length (b .tasks)
+        inside = ltb→lt j (length (b .tasks)) (subst T (index-test (named n) (b .tasks)) (pass-some (named n) (b .tasks) (getD-in (b .tasks) i freeSlot h) t))
+
+        u : T (named n (slotAt b j))
+        u = index-passes (named n) (b .tasks) freeSlot inside
+
+        lives : (x : Task) → T (named n x) → T (live x)
+        lives x v = and-l (live x) (eqb (x .id) n) v
+
+        id-of : (x : Task) → T (named n x) → x .id ≡ n
+        id-of x v = eqb→eq (x .id) n (and-r (live x) (eqb (x .id) n) v)
+
+        order : Dec (j < i) → Dec (i < j) → j ≡ i
+        order (yes l) q = absurd (sorted-at Together live (b .tasks) freeSlot (s .together) j i l h (lives (slotAt b j) u) (lives k t) .ids (id-of (slotAt b j) u ∙ sym (id-of k t)))
+        order (no l) (yes q) = absurd (sorted-at Together live (b .tasks) freeSlot (s .together) i j q inside (lives k t) (lives (slotAt b j) u) .ids (id-of k t ∙ sym (id-of (slotAt b j) u)))
+        order (no l) (no q) = omega arith
+
+    -- not refused by 14: no live task of the id is running
+    waits : refusedWithdraw b n ≡ 0 → T (named n k) → b .now < k .start
+    waits e t =
+        let r1 = none-holds 1 _ _ (omega arith) e in
+        let r13 = none-holds 13 _ _ (omega arith) (r1 .1) in
+        let r14 = none-holds 14 _ _ (omega arith) (r13 .1) in
+        let s = good e in
+        let m = getD-in (b .tasks) i freeSlot h in
+        phase (s .tasks k m l .phase) (λ q. T-not (named n k && runningPhase (k .phase)) (none-pass (λ x. named n x && runningPhase (x .phase)) (b .tasks) (r14 .0) m) (and-i (named n k) (runningPhase (k .phase)) t q))
+      where
+        phase : InPhase (b .now) k → (T (runningPhase (k .phase)) → ⊥) → b .now < k .start
+        phase (running e h) f = absurd (f (rw e tt))
+        phase (waiting e h) f = h
+
+    step : refusedWithdraw b n ≡ 0 → T (named n k) ⊎ T (not (named n k)) → Withdraws (b .now) n k (slotAt (withTasks b (withoutNamed n (b .tasks))) i)
+    step e (inr t) = stands (withdrawn-keeps n (b .tasks) i h t)
+    step e (inl t) =
+        let q = first (good e) t in
+        gone (eqb→eq (k .id) n (and-r (live k) (eqb (k .id) n) t)) (waits e t)
+        (subst (λ x. getD (withoutNamed n (b .tasks)) x freeSlot ≡ freeSlot) q (withdrawn-free n (b .tasks) (subst (λ x. x < length (b .tasks)) (sym q) h)))
+
+    after : ℕ → Withdrawn
+    after r = orRefused r (λ x. record { number = x; board = b }) (record { number = 0; board = withTasks b (withoutNamed n (b .tasks)) })
+
+    go : (r : ℕ) → refusedWithdraw b n ≡ r → Withdraws (b .now) n k (slotAt (after r .board) i)
+    go zero e = step e (bool (named n k))
+    go (suc r) e = stands refl
+
+-- A REFUSED CALL HANDS BACK THE SAME BOARD
+pub refused-submit-same : (b : Board) (n : ℕ) (a : Submission) (k : ℕ) → refusedSubmit b n a ≡ suc k → submitted b n a ≡ record { answer = Refused (suc k); board = b }
+unfolding submitted orRefused
+refused-submit-same b n a k e = rw e
+
+pub refused-clock-same : (b : Board) (i k : ℕ) → refusedInstant b i ≡ suc k → clocked b i ≡ record { number = suc k; board = b }
+unfolding clocked orRefused
+refused-clock-same b i k e = rw e
+
+pub refused-withdraw-same : (b : Board) (n k : ℕ) → refusedWithdraw b n ≡ suc k → withdrawn b n ≡ record { number = suc k; board = b }
+unfolding withdrawn orRefused
+refused-withdraw-same b n k e = rw e
+
+-- a rejection too
+pub rejected-same : (b : Board) (n : ℕ) (a : Submission) → submitted b n a .answer ≡ Rejected → submitted b n a .board ≡ b
+unfolding submitted answered orRefused taken
+rejected-same b n a e = go (refusedSubmit b n a) (planned (b .columns) (b .now) (liveOf b) a n) e
+  where
+    after : ℕ → Option Place → Submitted
+    after r o = orRefused r (λ x. record { answer = Refused x; board = b }) (taken b a o)
+
+    go : (r : ℕ) (o : Option Place) → after r o .answer ≡ Rejected → after r o .board ≡ b
+    go zero none q = refl
+    go zero (some p) q = absurd (let z : _≡_ {A = ℕ} 0 1 = cc in omega arith)
+    go (suc r) o q = refl
+
+-- the clock of a sound board, to an instant that is not refused
+pub clocked-done : (b : Board) (i : ℕ) → SoundBoard b → b .now ≤ i → i ≤ 2000000000 → clocked b i ≡ record { number = 0; board = boardAt b i }
+unfolding clocked refusedInstant orRefused
+clocked-done b i s l h =
+    rw (sound-passes b (passed b i ∷ beyond i ∷ []) (is-true (soundBoard b) (sound-in (b .columns) (b .rows) (b .now) (b .tasks) s)), passed-over 11 (ltb i (b .now)) (beyond i ∷ []) (le-ltb i (b .now) l), passed-over 12 (ltb 2000000000 i) [] (le-ltb 2000000000 i h))
+    (unfold refusal in refl)
+
+-- CLOCK TO NOW CHANGES NOTHING
+pub clock-to-now : (b : Board) → SoundBoard b → clocked b (b .now) ≡ record { number = 0; board = b }
+unfolding boardAt
+clock-to-now b s =
+    clocked-done b (b .now) s (omega arith) (s .clock)
+    ∙ ap (λ ks. record { number = 0; board = withTasks b ks }) (aged-now (b .columns) (b .rows) (b .now) (b .tasks) s)
+
+-- TWO CLOCKS ONE AFTER THE OTHER ARE THE LATER ONE
+pub clock-twice : (b : Board) (i j : ℕ) → SoundBoard b → b .now ≤ i → i ≤ j → j ≤ 2000000000 → clocked (clocked b i .board) j ≡ clocked b j
+unfolding boardAt
+clock-twice b i j s l m h =
+    let e : clocked b i .board ≡ boardAt b i = ap (λ r. r .board) (clocked-done b i s l (omega arith)) in
+    let t : SoundBoard (boardAt b i) = aged-sound (b .columns) (b .rows) (b .now) i (b .tasks) s l (omega arith) in
+    ap (λ x. clocked x j) e ∙ clocked-done (boardAt b i) j t m h
+    ∙ ap (λ ks. record { number = 0; board = record { tasks = ks; now = j; columns = b .columns; rows = b .rows } }) (aged-twice i j (b .tasks) m)
+    ∙ sym (clocked-done b j s (omega arith) h)
+
+-- A NEW BOARD IS SOUND where its size is in range; otherwise it is the board of zeros, which is not
+pub created-sound : (W H : ℕ) → T (deviceFits W H) → SoundBoard (created W H .board)
+unfolding created refusedCreate orRefused freshBoard sound all? slotSound zeros pairwise? keep
+created-sound W H t = rw (passed-over 2 (not (deviceFits W H)) [] (ap not (is-true (deviceFits W H) t))) (unfold refusal in fresh)
+  where
+    fresh : Sound W H 0 (replicate 64 freeSlot)
+    fresh = sound-out W H 0 (replicate 64 freeSlot) (rw (is-true (deviceFits W H) t) tt)
+
+pub zero-board : zeroBoard ≡ record { tasks = replicate 64 freeSlot; now = 0; columns = 0; rows = 0 }
+unfolding freshBoard
+zero-board = refl
+
+pub zero-unsound : soundBoard zeroBoard ≡ false
+unfolding freshBoard sound
+zero-unsound = refl

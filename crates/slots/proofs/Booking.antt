@@ -1,0 +1,89 @@
+-- Booking and withdrawal over the slots: a sound board stays sound, and every other task stands where it was. Assumes nothing.
+use Prim.Native.Nat.{ℕ, zero, suc, _+_, _≤_, _<_}
+use mathlib.Core.Path.{_≡_, refl, sym, ap, _∙_, subst}
+use mathlib.Core.Logic.{_⊎_, inl, inr}
+use mathlib.Core.Bool.{Bool, true, false, not, _&&_}
+use mathlib.Core.List.{List}
+use native.Mathlib.Omega.{arith}
+use lib.Dec.{T, eqb, T-not, not-T}
+use lib.ListN.{length, getD}
+use Rattle.lists.specs.Lists.{_∈_, keep, some?, indexOf, putFirst}
+use Rattle.lists.proofs.Bools.{and-l, and-i, not-not}
+use Rattle.lists.proofs.Members.{keep-in}
+use Rattle.lists.proofs.Order.{Sorted, put-in, sorted-put}
+use Rattle.lists.proofs.Append.{put-there, put-keeps, length-put}
+use Rattle.tasks.specs.declared.Task.{Task}
+use Rattle.tasks.specs.Tasks.{live, freeSlot}
+use Rattle.tasks.proofs.Laws.{Share, share-sym}
+use Rattle.slots.specs.Slots.{liveIn, named, withBooked, withoutNamed}
+use Rattle.slots.proofs.Soundness.{SoundTask, Together, Sound, in-phase-live}
+
+-- a test of free slots
+abbrev freeTest : Task → Bool
+freeTest k = not (live k)
+
+turned : (k l : Task) → Together k l → Together l k
+turned k l t = record { ids = λ e. t .ids (sym e); apart = λ s. t .apart (share-sym l k s) }
+
+module _ (W H now : ℕ) (ks : List Task) (s : Sound W H now ks) where
+  -- BOOKING A SOUND TASK that is apart from every live one KEEPS THE BOARD SOUND
+  pub booked-sound : (k : Task) → SoundTask W H now k → ((l : Task) → l ∈ ks → T (live l) → Together k l) → Sound W H now (withBooked k ks)
+  unfolding withBooked
+  booked-sound k o f = record {
+    columns = s .columns;
+    rows = s .rows;
+    clock = s .clock;
+    slots = length-put freeTest k ks ∙ s .slots;
+    tasks = λ l m t. pick l (put-in Together live freeTest k ks m) t;
+    free = λ l m t. none l (put-in Together live freeTest k ks m) t;
+    together = sorted-put Together live freeTest k ks (λ l m t u. let r = f l m t in (r, turned k l r)) (s .together) (λ l t u v. T-not (live l) t u);
+  }
+    where
+      pick : (l : Task) → (l ≡ k) ⊎ (l ∈ ks) → T (live l) → SoundTask W H now l
+      pick l (inl e) t = subst (SoundTask W H now) (sym e) o
+      pick l (inr m) t = s .tasks l m t
+
+      none : (l : Task) → (l ≡ k) ⊎ (l ∈ ks) → T (not (live l)) → l ≡ freeSlot
+      none l (inl e) t = absurd (T-not (live k) (subst (λ x. T (not (live x))) e t) (in-phase-live now k (o .phase)))
+      none l (inr m) t = s .free l m t
+
+  -- WITHDRAWAL KEEPS THE BOARD SOUND
+  pub withdrawn-sound : (n : ℕ) → Sound W H now (withoutNamed n ks)
+  unfolding withoutNamed
+  withdrawn-sound n = record {
+    columns = s .columns;
+    rows = s .rows;
+    clock = s .clock;
+    slots = length-put (named n) freeSlot ks ∙ s .slots;
+    tasks = λ l m t. pick l (put-in Together live (named n) freeSlot ks m) t;
+    free = λ l m t. none l (put-in Together live (named n) freeSlot ks m) t;
+    together = sorted-put Together live (named n) freeSlot ks (λ l m t u. absurd u) (s .together) (λ l t u v. v);
+  }
+    where
+      pick : (l : Task) → (l ≡ freeSlot) ⊎ (l ∈ ks) → T (live l) → SoundTask W H now l
+      pick l (inl e) t = absurd (subst (λ x. T (live x)) e t)
+      pick l (inr m) t = s .tasks l m t
+
+      none : (l : Task) → (l ≡ freeSlot) ⊎ (l ∈ ks) → T (not (live l)) → l ≡ freeSlot
+      none l (inl e) t = e
+      none l (inr m) t = s .free l m t
+
+-- NOTHING MOVES: a live task keeps its slot when another is booked
+pub booked-keeps : (k : Task) (ks : List Task) (i : ℕ) → i < length ks → T (live (getD ks i freeSlot)) → getD (withBooked k ks) i freeSlot ≡ getD ks i freeSlot
+unfolding withBooked
+booked-keeps k ks i h t = put-keeps freeTest k ks i freeSlot h (not-T (freeTest (getD ks i freeSlot)) (λ u. T-not (live (getD ks i freeSlot)) u t))
+
+-- the booked task stands in the lowest free slot
+pub booked-there : (k : Task) (ks : List Task) → indexOf freeTest ks < length ks → getD (withBooked k ks) (indexOf freeTest ks) freeSlot ≡ k
+unfolding withBooked
+booked-there k ks h = put-there freeTest k ks freeSlot h
+
+-- and when another is withdrawn
+pub withdrawn-keeps : (n : ℕ) (ks : List Task) (i : ℕ) → i < length ks → T (not (named n (getD ks i freeSlot))) → getD (withoutNamed n ks) i freeSlot ≡ getD ks i freeSlot
+unfolding withoutNamed
+withdrawn-keeps n ks i h t = put-keeps (named n) freeSlot ks i freeSlot h t
+
+-- an ended or withdrawn slot is exactly the free slot
+pub withdrawn-free : (n : ℕ) (ks : List Task) → indexOf (named n) ks < length ks → getD (withoutNamed n ks) (indexOf (named n) ks) freeSlot ≡ freeSlot
+unfolding withoutNamed
+withdrawn-free n ks h = put-there (named n) freeSlot ks freeSlot h
