@@ -1,1 +1,8 @@
-// The four planners over (W, now, live tasks): definitions (specs/) and their meanings (proofs/).
+// The four planners over (W, now, live tasks): definitions (specs/), their meanings (proofs/), and what a planner answers.
+// The planners themselves are in the crates above: each is small enough to be proved again in seconds.
+
+// A place that was found: the column and the start.
+pub enum Found {
+    Nothing,
+    At { column: u32, start: u32 },
+}
