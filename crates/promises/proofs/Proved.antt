@@ -1,12 +1,18 @@
 -- The proving set, and the cases that tell near misses apart, hold: the checker computes them from the definitions. Assumes nothing.
 use mathlib.Core.Path.{_≡_, refl}
-use mathlib.Core.List.{[], _∷_}
+use mathlib.Core.List.{[], _∷_, _++_}
+use Prim.Native.Nat.{_^_}
 use lib.Dec.{T}
+use Rattle.board.specs.Calls.{zeroBoard}
+use Rattle.events.specs.declared.Event.the-variants.{NewBoard, Clock}
+use Rattle.session.specs.Recording.{mostEvents}
+use Rattle.promises.specs.ProvingSet.{line}
 use Rattle.promises.specs.Cases.{submit, clock}
 use Rattle.lists.specs.Lists.{keep, some?, all?, pairwise?, head?, orElse, lastOr, indexOf, putFirst, insertBy, sortBy, each, firstOf, range, highest, addTo, rising}
 use Rattle.ways.specs.Ways.{isOpen, pairsIn, openingsIn, after, openingsAfter, askedOn}
 use Rattle.tasks.specs.Tasks.{meets, covers, holds, phaseAt, stamped, zeros, booked}
 use Rattle.columns.specs.Columns.{join, runs, bestFit}
+use Rattle.planners.specs.Lent.{tasksOf}
 use Rattle.planners.specs.Openings.{ways, full}
 use Rattle.planners.specs.Planners.{free, release, visited, clearOfWaiting, candidates, releasedEdges, reference, horizon, stuffing, planned}
 use Rattle.slots.specs.Slots.{agree, taskSound, slotSound, together, sound, named, known, withBooked, agedTo, allAgedTo, withoutNamed, runsNamed}
@@ -24,7 +30,7 @@ use Rattle.promises.specs.ProvingSet.{played, tableWith, withClocks, fir
 
 -- every definition of the book, opened so that it computes
 open-book : Unit {0}
-unfolding keep some? all? pairwise? head? orElse lastOr indexOf putFirst insertBy sortBy each firstOf range highest addTo rising isOpen pairsIn openingsIn after openingsAfter askedOn meets covers holds phaseAt stamped zeros booked join runs bestFit ways full free release visited clearOfWaiting candidates releasedEdges reference horizon stuffing planned agree taskSound slotSound together sound named known withBooked agedTo allAgedTo withoutNamed runsNamed clashAt horizonList stripWords busyColumns told orRefused freshBoard created withTask taken answered submitted boardAt clocked withdrawn remaining pairWords opened openedBuffer listed listedBuffer counted refusal refusedCreate refusedSubmit refusedInstant refusedWithdraw refusedOpenings refusedHorizon clockedUntested withdrawnAt withdrawnUntested bytesOf numberOf kindOf bodyOf recordOf wholeOr15 readFrom written writtenBuffer toldRead toldWritten lineOf outcome linesFrom planLines numbers afterEvent play same sameAll passes at only refusedList edgeSet filled played tableWith withClocks firstSix seven listing provingSet twoRuns waitingAhead tellingSet listingEvents listingLines recording
+unfolding keep some? all? pairwise? head? orElse lastOr indexOf putFirst insertBy sortBy each firstOf range highest addTo rising isOpen pairsIn openingsIn after openingsAfter askedOn meets covers holds phaseAt stamped zeros booked join runs bestFit tasksOf ways full free release visited clearOfWaiting candidates releasedEdges reference horizon stuffing planned agree taskSound slotSound together sound named known withBooked agedTo allAgedTo withoutNamed runsNamed clashAt horizonList stripWords busyColumns told orRefused freshBoard created withTask taken answered submitted boardAt clocked withdrawn remaining pairWords opened openedBuffer listed listedBuffer counted refusal refusedCreate refusedSubmit refusedInstant refusedWithdraw refusedOpenings refusedHorizon clockedUntested withdrawnAt withdrawnUntested bytesOf numberOf kindOf bodyOf recordOf wholeOr15 readFrom written writtenBuffer toldRead toldWritten lineOf outcome linesFrom planLines numbers afterEvent play same sameAll passes at only refusedList edgeSet filled played tableWith withClocks firstSix seven listing provingSet twoRuns waitingAhead tellingSet listingEvents listingLines recording
 open-book = tt
 
 -- CASES 1 TO 9 OF DOCUMENT 01
@@ -51,3 +57,24 @@ filled-up = refl
 pub listing-printed : planLines (recording listingEvents) ≡ listingLines
 unfolding open-book
 listing-printed = refl
+
+-- 15 and 16 get their line, kind as the byte read, and end the run; no byte is no line
+pub cut-short-printed : planLines (recordOf (NewBoard 4 1) ++ (3 ∷ 1 ∷ [])) ≡ line 1 1 0 0 0 0 ∷ line 2 3 15 0 0 0 ∷ []
+unfolding open-book
+cut-short-printed = refl
+
+pub unknown-printed : planLines (7 ∷ recordOf (NewBoard 4 1)) ≡ line 1 7 16 0 0 0 ∷ []
+unfolding open-book
+unknown-printed = refl
+
+pub nothing-printed : planLines [] ≡ []
+unfolding open-book
+nothing-printed = refl
+
+-- after as many events as are left to read it stops without a line, and that many are left at the start
+pub stops-silently : linesFrom 1 zeroBoard 6 (recordOf (NewBoard 4 1) ++ recordOf (Clock 2)) ≡ line 7 1 0 0 0 0 ∷ []
+unfolding open-book
+stops-silently = refl
+
+pub most-events : mostEvents ≡ 10 ^ 9
+most-events = refl

@@ -31,6 +31,8 @@ edgeSet =
     -- 6 before 7, 7 before 8, 7 over all slots, and the id is free again when its task has ended
     ∷ case 4 1 (submit 0 7 1 1 2 9 ∷ submit 0 7 1 1 0 9 ∷ submit 0 7 1 1 1 0 ∷ submit 0 8 1 1 9 9 ∷ submit 0 8 1 1 1 9 ∷ clock 2 ∷ submit 0 7 1 1 1 9 ∷ [])
     (at 1 0 2 ∷ only 6 ∷ only 7 ∷ at 2 0 9 ∷ only 7 ∷ only 0 ∷ at 1 2 3 ∷ [])
+    -- rows are rows: a height over W but within H, before and after the clock
+    ∷ case 1 2 (submit 0 1 1 2 1 9 ∷ clock 0 ∷ submit 0 2 1 3 1 9 ∷ clock 1 ∷ submit 0 2 1 2 1 9 ∷ []) (at 1 0 1 ∷ only 0 ∷ only 5 ∷ only 0 ∷ at 1 1 2 ∷ [])
     -- clock: 11 below now, 12 above 2,000,000,000, and the clock can go as far as that
     ∷ case 1 1 (clock 5 ∷ clock 4 ∷ clock 5 ∷ clock 2000000001 ∷ clock 2000000000 ∷ clock 0 ∷ [])
     (only 0 ∷ only 11 ∷ only 0 ∷ only 12 ∷ only 0 ∷ only 11 ∷ [])

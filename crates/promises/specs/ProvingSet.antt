@@ -107,7 +107,7 @@ listingEvents =
     NewBoard 4 1 ∷ Submit 2 (task 1 2 1 2 9) ∷ Submit 2 (task 2 3 1 4 9) ∷ Submit 2 (task 3 1 1 5 5)
     ∷ Submit 3 (task 3 1 1 5 5) ∷ Clock 2 ∷ Withdraw 2 ∷ []
 
-abbrev line : ℕ → ℕ → ℕ → ℕ → ℕ → ℕ → Line
+abbrev pub line : ℕ → ℕ → ℕ → ℕ → ℕ → ℕ → Line
 line n k a c s f = record { event = n; kind = k; answer = a; column = c; start = s; finish = f }
 
 unfoldable pub listingLines : List Line
