@@ -223,3 +223,9 @@ longest-runs f c n r o = subst (λ x. x ∈ runs f (range c n)) same (q .among)
 
     same : q .run ≡ r
     same = λ i. record { left = lefts i; size = sizes i }
+
+-- tests that agree on the columns have the same runs
+pub runs-same : (f g : ℕ → Bool) (c n : ℕ) → ((k : ℕ) → c ≤ k → k < c + n → f k ≡ g k) → runs f (range c n) ≡ runs g (range c n)
+unfolding runs range
+runs-same f g c zero h = refl
+runs-same f g c (suc n) h = rw (h c (omega arith) (omega arith), runs-same f g (suc c) n (λ k l m. h k (omega arith) (omega arith)))

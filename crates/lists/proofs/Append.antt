@@ -197,3 +197,21 @@ put-keeps p x l i d h t =
 
 pub length-put : {A : Type 0} (p : A → Bool) (x : A) (l : List A) → length (putFirst p x l) ≡ length l
 length-put p x l = ap length (put-index p x l) ∙ length-set l (indexOf p l) x
+
+pub some-append : {A : Type 0} (p : A → Bool) (xs : List A) (y : A) → some? p (xs ++ (y ∷ [])) ≡ (some? p xs || p y)
+unfolding some?
+some-append p [] y = last (p y)
+  where
+    last : (b : Bool) → (b || false) ≡ b
+    last true = refl
+    last false = refl
+some-append p (x ∷ xs) y = step (p x) (some-append p xs y)
+  where
+    step : (b : Bool) → some? p (xs ++ (y ∷ [])) ≡ (some? p xs || p y) → (b || some? p (xs ++ (y ∷ []))) ≡ ((b || some? p xs) || p y)
+    step true e = refl
+    step false e = e
+
+pub some-map : {A B : Type 0} (p : B → Bool) (g : A → B) (xs : List A) → some? p (map g xs) ≡ some? (λ x. p (g x)) xs
+unfolding some?
+some-map p g [] = refl
+some-map p g (x ∷ xs) = ap (λ b. p (g x) || b) (some-map p g xs)

@@ -1,2 +1,4 @@
 pub mod Openings
 pub mod Planners
+pub mod Lent
+pub mod Walk

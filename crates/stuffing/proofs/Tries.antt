@@ -1,0 +1,193 @@
+-- The two walks of Stuffing: the tries at a time give its first candidate, the visits give the answer. Assumes nothing.
+use Prim.Native.Nat.{ℕ, suc, _+_, _-_, _*_, _%_, _≤_, _<_}
+use mathlib.Core.Path.{_≡_, refl, sym, ap, _∙_, subst}
+use mathlib.Core.Logic.{_⊎_, inl, inr}
+use mathlib.Core.Bool.{Bool, true, false, not, _&&_}
+use mathlib.Core.Option.{Option, none as nothing, some}
+use mathlib.Core.List.{List, [], map}
+use native.Mathlib.Omega.{arith}
+use native.Mathlib.Decide.{decLe}
+use lib.Dec.{T, eqb}
+use lib.ListN.{getD}
+use Rattle.lists.specs.Lists.{_∈_, some?, keep, head?}
+use Rattle.lists.proofs.Members.{map-in, in-map}
+use Rattle.lists.proofs.Order.{Sorted}
+use Rattle.ways.specs.Ways.{pair, isOpen}
+use Rattle.tasks.specs.declared.Task.{Task}
+use Rattle.tasks.specs.declared.Submission.{Submission}
+use Rattle.tasks.specs.Tasks.{finish, meets, stamped, booked}
+use Rattle.columns.specs.Columns.{columns, Run, runs, bestFit}
+use Rattle.columns.proofs.Runs.{Lies, runs-lie, runs-same}
+use Rattle.columns.proofs.BestFit.{Better, narrower, lefter, best-sorted, fit-in, in-fit}
+use Rattle.planners.specs.declared.Found.{Found}
+use Rattle.planners.specs.declared.Found.the-variants.{Nothing, At}
+use Rattle.planners.specs.Openings.{Place, ways}
+use Rattle.planners.specs.Planners.{free, leftEdge, visited, clearOfWaiting, candidates, stuffing}
+use Rattle.planners.specs.Lent.{foundOf, taskAt, tasksOf, OnDevice, asked}
+use Rattle.planners.proofs.Planners.{waiting-is-all}
+use Rattle.planners.proofs.Lent.{task-in, in-tasks, finish-at}
+use Rattle.planners.proofs.Walk.{Visits, visits-hit, visits-none, visits-on, first-kept, none-kept}
+use Rattle.stuffing.specs.Fit.{meetsAt, Row, key, none, NextFit, NextFinish}
+
+-- what a row says of the runs is what the tasks say
+pub fit-same : {W w after r : ℕ} {passes : ℕ → Bool} {row : List ℕ} → Row passes W row → NextFit (λ c. eqb (getD row c 0) 0) W w after r → NextFit passes W w after r
+fit-same {W} {w} {after} {r} {passes} {row} o n =
+    let e : runs (λ c. eqb (getD row c 0) 0) (columns W) ≡ runs passes (columns W) = runs-same (λ c. eqb (getD row c 0) 0) passes 1 W (λ k l h. o .says k l (omega arith)) in
+    record {
+      least = λ q m l h. n .least q (subst (λ x. q ∈ x) (sym e) m) l h;
+      one = found e (n .one);
+    }
+  where
+    found : runs (λ c. eqb (getD row c 0) 0) (columns W) ≡ runs passes (columns W)
+        → (r ≡ none) ⊎ ((q : Run) × (q ∈ runs (λ c. eqb (getD row c 0) 0) (columns W)) × (w ≤ q .size) × (after < key q) × (key q ≡ r))
+        → (r ≡ none) ⊎ ((q : Run) × (q ∈ runs passes (columns W)) × (w ≤ q .size) × (after < key q) × (key q ≡ r))
+    found e (inl z) = inl z
+    found e (inr z) = inr (z .0, subst (λ x. z .0 ∈ x) e (z .1), z .2, z .3, z .4)
+
+-- every free interval at t up to the key `after` that is wide enough meets a task at its left edge
+pub record Tried (W : ℕ) (ts : List Task) (w e t after : ℕ) : Type 0 where
+  pub most : after ≤ none
+  pub met : (q : Run) → q ∈ runs (free ts t) (columns W) → w ≤ q .size → key q ≤ after → some? (meetsAt (q .left) w t e) ts ≡ true
+
+module _ (W now : ℕ) (ts : List Task) (w e d : ℕ) (small : W ≤ 256) where
+  abbrev a : Submission
+  a = asked w e d
+
+  abbrev meet : ℕ → ℕ → Bool
+  meet t c = some? (meetsAt c w t e) ts
+
+  abbrev Tries : ℕ → ℕ → Type 0
+  Tries t after = Tried W ts w e t after
+
+  pub tries-start : (t : ℕ) → 1 ≤ w → Tries t 0
+  tries-start t h = record { most = omega arith; met = λ q m l k. absurd (omega arith) }
+
+  -- a run's left edge, and so its key, is that of one run
+  lies : (t : ℕ) (q : Run) → q ∈ runs (free ts t) (columns W) → Lies (free ts t) 1 W q
+  lies t q m = runs-lie (free ts t) 1 W m
+
+  left-of : (t : ℕ) (q : Run) → q ∈ runs (free ts t) (columns W) → key q % 512 ≡ q .left
+  left-of t q m = let o = lies t q m in omega (arith, o .high, o .not-empty)
+
+  small-key : (t : ℕ) (q : Run) → q ∈ runs (free ts t) (columns W) → key q < none
+  small-key t q m = let o = lies t q m in omega (arith, o .high, o .not-empty, o .low)
+
+  -- the test of the code is that of the book
+  clear-is : (t : ℕ) {p : Place} → p ∈ map (leftEdge t) (bestFit w (runs (free ts t) (columns W))) → clearOfWaiting W now ts a t p ≡ not (meet (p .start) (p .place))
+  clear-is t {p} m = waiting-is-all W now ts a t m ∙ (unfold isOpen ways booked stamped meets in refl)
+
+  edge-clear : (t : ℕ) (q : Run) → q ∈ bestFit w (runs (free ts t) (columns W)) → clearOfWaiting W now ts a t (leftEdge t q) ≡ not (meet t (q .left))
+  edge-clear t q m = clear-is t (in-map (leftEdge t) m)
+
+  -- all are tried: no candidate
+  pub tries-none : {t after r : ℕ} → Tries t after → NextFit (free ts t) W w after r → r ≡ none → candidates W now ts a t ≡ []
+  unfolding candidates
+  tries-none {t} {after} {r} o n z = none-kept (clearOfWaiting W now ts a t) (leftEdge t) (bestFit w (runs (free ts t) (columns W))) each
+    where
+      each : (q : Run) → q ∈ bestFit w (runs (free ts t) (columns W)) → T (not (clearOfWaiting W now ts a t (leftEdge t q)))
+      each q m =
+          let f = fit-in w (runs (free ts t) (columns W)) m in
+          subst (λ b. T (not b)) (sym (edge-clear t q m ∙ ap not (o .met q (f .0) (f .1) (tried f (decLe (key q) after))))) tt
+        where
+          tried : (q ∈ runs (free ts t) (columns W)) × (w ≤ q .size) → Dec (key q ≤ after) → key q ≤ after
+          tried f (yes k) = k
+          tried f (no k) = absurd (let l = n .least q (f .0) (f .1) (omega arith) in let s = small-key t q (f .0) in omega arith)
+
+  -- the next is clear: it is the first candidate
+  pub tries-hit : {t after r : ℕ} → Tries t after → NextFit (free ts t) W w after r → (r ≡ none → ⊥) → meet t (r % 512) ≡ false → head? (candidates W now ts a t) ≡ some (pair t (r % 512))
+  unfolding candidates
+  tries-hit {t} {after} {r} o n f z = go (n .one)
+    where
+      go : (r ≡ none) ⊎ ((q : Run) × (q ∈ runs (free ts t) (columns W)) × (w ≤ q .size) × (after < key q) × (key q ≡ r)) → head? (keep (clearOfWaiting W now ts a t) (map (leftEdge t) (bestFit w (runs (free ts t) (columns W))))) ≡ some (pair t (r % 512))
+      go (inl k) = absurd (f k)
+      go (inr k) =
+          let q = k .0 in
+          let c : q .left ≡ r % 512 = sym (left-of t q (k .1)) ∙ ap (λ x. x % 512) (k .4) in
+          let m = in-fit w (runs (free ts t) (columns W)) (k .1) (k .2) in
+          first-kept Better (clearOfWaiting W now ts a t) (leftEdge t) (best-sorted w (free ts t) 1 W) m
+          (subst T (sym (edge-clear t q m ∙ ap not (ap (meet t) c ∙ z))) tt)
+          (λ x i b. before x i (k .4) (fit-in w (runs (free ts t) (columns W)) i) (less q x (k .1) b))
+          ∙ ap (λ x. some (pair t x)) c
+        where
+          less : (q x : Run) → q ∈ runs (free ts t) (columns W) → Better x q → x ∈ runs (free ts t) (columns W) → key x < key q
+          less q x i (narrower h) j = let u = lies t x j in omega (arith, u .high, u .not-empty)
+          less q x i (lefter e h) j = let y : x .size * 512 ≡ q .size * 512 = ap (λ s. s * 512) e in omega arith
+
+          before : (x : Run) → x ∈ bestFit w (runs (free ts t) (columns W)) → key (k .0) ≡ r → (x ∈ runs (free ts t) (columns W)) × (w ≤ x .size) → (x ∈ runs (free ts t) (columns W) → key x < key (k .0)) → T (not (clearOfWaiting W now ts a t (leftEdge t x)))
+          before x i y j b =
+              subst (λ v. T (not v)) (sym (edge-clear t x i ∙ ap not (o .met x (j .0) (j .1) (tried (decLe (key x) after))))) tt
+            where
+              tried : Dec (key x ≤ after) → key x ≤ after
+              tried (yes u) = u
+              tried (no u) = absurd (let l = n .least x (j .0) (j .1) (omega arith) in let v = b (j .0) in omega arith)
+
+  -- the next meets a task: on
+  pub tries-on : {t after r : ℕ} → Tries t after → NextFit (free ts t) W w after r → (r ≡ none → ⊥) → meet t (r % 512) ≡ true → Tries t r
+  tries-on {t} {after} {r} o n f z = record { most = most (n .one); met = λ q m l k. each q m l k (decLe (key q) after) }
+    where
+      most : (r ≡ none) ⊎ ((q : Run) × (q ∈ runs (free ts t) (columns W)) × (w ≤ q .size) × (after < key q) × (key q ≡ r)) → r ≤ none
+      most (inl k) = absurd (f k)
+      most (inr k) = let s = small-key t (k .0) (k .1) in omega (arith, k .4)
+
+      each : (q : Run) → q ∈ runs (free ts t) (columns W) → w ≤ q .size → key q ≤ r → Dec (key q ≤ after) → meet t (q .left) ≡ true
+      each q m l k (yes u) = o .met q m l u
+      each q m l k (no u) =
+          let v : key q ≡ r = omega (arith, n .least q m l (omega arith)) in
+          ap (meet t) (sym (left-of t q m) ∙ ap (λ x. x % 512) v) ∙ z
+
+  -- the next key is past the last
+  pub tries-past : {t after r : ℕ} → Tries t after → NextFit (free ts t) W w after r → (r ≡ none → ⊥) → (after < r) × (r < none)
+  tries-past {t} {after} {r} o n f = go (n .one)
+    where
+      go : (r ≡ none) ⊎ ((q : Run) × (q ∈ runs (free ts t) (columns W)) × (w ≤ q .size) × (after < key q) × (key q ≡ r)) → (after < r) × (r < none)
+      go (inl k) = absurd (f k)
+      go (inr k) = let s = small-key t (k .0) (k .1) in (omega (arith, k .3, k .4), omega (arith, k .4))
+
+-- the visits of Stuffing
+abbrev pub Stuffs : (W now : ℕ) → List Task → (w e d : ℕ) → ℕ → Type 0
+Stuffs W now ts w e d t = Visits W now ts (asked w e d) (candidates W now ts (asked w e d)) (map finish ts) t
+
+module _ (W now n : ℕ) (s f l r : List ℕ) (o : OnDevice W n s f l r) (w e d : ℕ) where
+  abbrev ts : List Task
+  ts = tasksOf n s f l r
+
+  -- each time is the finish of a task
+  time-at : (x : ℕ) → x ∈ map finish ts → (i : ℕ) × (i < n) × (x ≡ getD f i 0)
+  time-at x m =
+      let k = map-in finish ts m in
+      let j = task-in s f l r n (k .1) in
+      (j .0, j .1, k .2 ∙ ap finish (j .2) ∙ finish-at o (j .0) (j .1))
+
+  at-time : (i : ℕ) → i < n → getD f i 0 ∈ map finish ts
+  at-time i h = subst (λ x. x ∈ map finish ts) (finish-at o i h) (in-map finish (in-tasks s f l r n i h))
+
+  pub stuffs-hit : {t c : ℕ} → Stuffs W now ts w e d t → head? (candidates W now ts (asked w e d) t) ≡ some (pair t c) → At c t ≡ foundOf (stuffing W now ts (asked w e d))
+  unfolding stuffing
+  stuffs-hit v q = sym (ap foundOf (visits-hit W now ts (asked w e d) (candidates W now ts (asked w e d)) (map finish ts) v q))
+
+  pub stuffs-none : {t u : ℕ} → Stuffs W now ts w e d t → candidates W now ts (asked w e d) t ≡ [] → NextFinish f n t u → d - e < u → e ≤ d → Nothing ≡ foundOf (stuffing W now ts (asked w e d))
+  unfolding stuffing
+  stuffs-none {t} {u} v q x h g = sym (ap foundOf (visits-none W now ts (asked w e d) (candidates W now ts (asked w e d)) (map finish ts) v q far))
+    where
+      far : (y : ℕ) → y ∈ map finish ts → (y ≤ t) ⊎ (d < y + e)
+      far y m = let k = time-at y m in pick (k .0) (x .least (k .0) (k .1)) (k .2)
+        where
+          pick : (i : ℕ) → (getD f i 0 ≤ t) ⊎ (u ≤ getD f i 0) → y ≡ getD f i 0 → (y ≤ t) ⊎ (d < y + e)
+          pick i (inl p) z = inl (omega arith)
+          pick i (inr p) z = inr (omega arith)
+
+  pub stuffs-on : {t u : ℕ} → Stuffs W now ts w e d t → candidates W now ts (asked w e d) t ≡ [] → NextFinish f n t u → u ≤ d - e → e ≤ d → d ≤ 2000000000 → (t < u) × Stuffs W now ts w e d u
+  stuffs-on {t} {u} v q x h g k = go (x .one)
+    where
+      far : (y : ℕ) → y ∈ map finish ts → (y ≤ t) ⊎ (u ≤ y)
+      far y m = let b = time-at y m in pick (b .0) (x .least (b .0) (b .1)) (b .2)
+        where
+          pick : (i : ℕ) → (getD f i 0 ≤ t) ⊎ (u ≤ getD f i 0) → y ≡ getD f i 0 → (y ≤ t) ⊎ (u ≤ y)
+          pick i (inl p) z = inl (omega arith)
+          pick i (inr p) z = inr (omega arith)
+
+      go : (u ≡ none) ⊎ ((i : ℕ) × (i < n) × (t < getD f i 0) × (getD f i 0 ≡ u)) → (t < u) × Stuffs W now ts w e d u
+      go (inl z) = absurd (omega arith)
+      go (inr z) =
+          let p : t < u = omega (arith, z .2, z .3) in
+          (p, visits-on W now ts (asked w e d) (candidates W now ts (asked w e d)) (map finish ts) v q (subst (λ y. y ∈ map finish ts) (z .3) (at-time (z .0) (z .1))) p (omega arith) far)
