@@ -1,3 +1,4 @@
 pub mod Refusals
 pub mod Untested
 pub mod Kept
+pub mod Submit

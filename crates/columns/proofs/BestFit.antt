@@ -69,3 +69,26 @@ sort-sorted (next {x} {xs} f s) =
 pub best-sorted : (w : ℕ) (f : ℕ → Bool) (c n : ℕ) → Sorted Better (bestFit w (runs f (range c n)))
 unfolding bestFit
 best-sorted w f c n = sort-sorted (sorted-keep Gap (λ r. leb w (r .size)) (runs-sorted f c n))
+
+-- THE FIRST OF BEST FIT is the run that is wide enough and that no other such run is better than
+pub best-head : (w : ℕ) (f : ℕ → Bool) (c n : ℕ) (r : Run) → r ∈ runs f (range c n) → w ≤ r .size
+    → ((q : Run) → q ∈ runs f (range c n) → w ≤ q .size → Better q r → ⊥) → (qs : List Run) × (bestFit w (runs f (range c n)) ≡ r ∷ qs)
+best-head w f c n r m h least = step (bestFit w (runs f (range c n))) refl (in-fit w (runs f (range c n)) m h) (best-sorted w f c n)
+  where
+    step : (l : List Run) → bestFit w (runs f (range c n)) ≡ l → r ∈ l → Sorted Better l → (qs : List Run) × (l ≡ r ∷ qs)
+    step [] e k s = absurd (nowhere k)
+    step (q ∷ qs) e k s = pick (cases k)
+      where
+        pick : (r ≡ q) ⊎ (r ∈ qs) → (xs : List Run) × (q ∷ qs ≡ r ∷ xs)
+        pick (inl z) = (qs, ap (λ x. x ∷ qs) (sym z))
+        pick (inr j) =
+            let i = fit-in w (runs f (range c n)) (subst (λ l. q ∈ l) (sym e) (here refl)) in
+            absurd (least q (i .0) (i .1) (Sorted·head Better s r j))
+
+-- no run is wide enough: best fit has none
+pub best-none : (w : ℕ) (rs : List Run) → ((q : Run) → q ∈ rs → w ≤ q .size → ⊥) → bestFit w rs ≡ []
+best-none w rs none = step (bestFit w rs) refl
+  where
+    step : (l : List Run) → bestFit w rs ≡ l → l ≡ []
+    step [] e = refl
+    step (q ∷ qs) e = let i = fit-in w rs (subst (λ l. q ∈ l) (sym e) (here refl)) in absurd (none q (i .0) (i .1))

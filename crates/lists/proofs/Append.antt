@@ -215,3 +215,26 @@ pub some-map : {A B : Type 0} (p : B → Bool) (g : A → B) (xs : List A) → s
 unfolding some?
 some-map p g [] = refl
 some-map p g (x ∷ xs) = ap (λ b. p (g x) || b) (some-map p g xs)
+
+pub keep-map : {A B : Type 0} (p : B → Bool) (g : A → B) (xs : List A) → keep p (map g xs) ≡ map g (keep (λ x. p (g x)) xs)
+unfolding keep
+keep-map p g [] = refl
+keep-map p g (x ∷ xs) = step (p (g x)) (keep-map p g xs)
+  where
+    step : (b : Bool) → keep p (map g xs) ≡ map g (keep (λ y. p (g y)) xs) → cond b (g x ∷ keep p (map g xs)) (keep p (map g xs)) ≡ map g (cond b (x ∷ keep (λ y. p (g y)) xs) (keep (λ y. p (g y)) xs))
+    step true e = ap (λ l. g x ∷ l) e
+    step false e = e
+
+pub map-map : {A B C : Type 0} (f : B → C) (g : A → B) (xs : List A) → map f (map g xs) ≡ map (λ x. f (g x)) xs
+map-map f g [] = refl
+map-map f g (x ∷ xs) = ap (λ l. f (g x) ∷ l) (map-map f g xs)
+
+-- a list by its elements' numbers
+pub map-range : {A B : Type 0} (g : ℕ → B) (h : A → B) (a : ℕ) (xs : List A) (d : A) → ((i : ℕ) → i < length xs → g (a + i) ≡ h (getD xs i d)) → map g (range a (length xs)) ≡ map h xs
+unfolding range
+map-range g h a [] d f = refl
+map-range g h a (x ∷ xs) d f =
+    let z : a + 0 ≡ a = omega arith in
+    let first : g a ≡ h x = ap g (sym z) ∙ f 0 (omega arith) in
+    let rest = map-range g h (suc a) xs d (λ i l. let y : suc a + i ≡ a + suc i = omega arith in ap g y ∙ f (suc i) (omega arith)) in
+    ap₂ (λ y ys. y ∷ ys) first rest

@@ -152,6 +152,11 @@ module _ {A : Type 0} where
   getD-in (x ∷ xs) zero d h = here refl
   getD-in (x ∷ xs) (suc i) d h = there (getD-in xs i d (omega arith))
 
+  -- where no element fails, all are kept
+  pub keep-all : (p : A → Bool) (xs : List A) → ((a : A) → a ∈ xs → T (p a)) → keep p xs ≡ xs
+  keep-all p [] f = unfold keep in refl
+  keep-all p (x ∷ xs) f = keep-yes p x xs (f x (here refl)) ∙ ap (λ l. x ∷ l) (keep-all p xs (λ a m. f a (there m)))
+
   pub length-keep : (p : A → Bool) (xs : List A) → length (keep p xs) ≤ length xs
   length-keep p [] = unfold keep in omega arith
   length-keep p (x ∷ xs) = step (length-keep p xs) (bool (p x))

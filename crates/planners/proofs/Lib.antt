@@ -2,3 +2,4 @@ pub mod Openings
 pub mod Planners
 pub mod Lent
 pub mod Walk
+pub mod Bare

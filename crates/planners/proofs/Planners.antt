@@ -49,6 +49,25 @@ nothing-tried tried times f = none-first (λ j. head? (tried j)) times (λ i m. 
     empty : (i : ℕ) → tried i ≡ [] → head? (tried i) ≡ none
     empty i e = unfold head? in rw e
 
+-- AN ANSWER OF THAT KIND IS THE ONE: the first candidate at the least visited time that has one is what the planner gives
+pub answered : (tried : ℕ → List Place) {times : List ℕ} → Sorted _<_ times → {p : Place} → Answers tried times p → firstOf (λ i. head? (tried i)) times ≡ some p
+answered tried {times} s {p} r = step (firstOf (λ i. head? (tried i)) times) refl
+  where
+    clash : (i : ℕ) {q : Place} {qs : List Place} → tried i ≡ [] → tried i ≡ q ∷ qs → ⊥
+    clash i a b = let z : _≡_ {A = ℕ} 0 1 = cc in omega arith
+
+    same : (q : Place) (o : Answers tried times q) → o .at ≡ r .at → q ≡ p
+    same q o e = let z : q ∷ o .others ≡ p ∷ r .others = sym (o .first) ∙ ap tried e ∙ r .first in cc
+
+    pick : (q : Place) (o : Answers tried times q) → Dec (o .at < r .at) → Dec (r .at < o .at) → q ≡ p
+    pick q o (yes l) d = absurd (clash (o .at) (r .none-before (o .at) (o .among) l) (o .first))
+    pick q o (no l) (yes h) = absurd (clash (r .at) (o .none-before (r .at) (r .among) h) (r .first))
+    pick q o (no l) (no h) = same q o (omega arith)
+
+    step : (o : Option Place) → firstOf (λ i. head? (tried i)) times ≡ o → o ≡ some p
+    step none e = absurd (clash (r .at) (nothing tried times e (r .at) (r .among)) (r .first))
+    step (some q) e = let o = answers tried s e in ap some (pick q o (decLt (o .at) (r .at)) (decLt (r .at) (o .at)))
+
 -- the release of a column is not before now, and not before the finish of a live task that has the column
 pub release-from : (now : ℕ) (ts : List Task) (c : ℕ) → now ≤ release now ts c
 unfolding release
@@ -128,6 +147,10 @@ module _ (W now : ℕ) (ts : List Task) (a : Submission) where
   pub rejects-horizon : ((i : ℕ) → i ∈ visited W now ts a (map (release now ts) (columns W)) → releasedEdges W now ts a i ≡ []) → horizon W now ts a ≡ none
   unfolding horizon
   rejects-horizon f = nothing-tried (releasedEdges W now ts a) (visited W now ts a (map (release now ts) (columns W))) f
+
+  pub answers-horizon : {p : Place} → Answers (releasedEdges W now ts a) (visited W now ts a (map (release now ts) (columns W))) p → horizon W now ts a ≡ some p
+  unfolding horizon
+  answers-horizon r = answered (releasedEdges W now ts a) (visited-rising (map (release now ts) (columns W))) r
 
   -- a left edge that best fit tries among the runs of columns that pass
   pub record Edge (passes : ℕ → Bool) (i : ℕ) (p : Place) : Type 0 where

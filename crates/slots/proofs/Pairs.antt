@@ -76,10 +76,10 @@ pairs-end p i n h = let z : n - i ≡ 0 = omega arith in rw z (unfold pairwise? 
 
 module _ (W H now : ℕ) (ks : List Task) (v : Findings) (o : Surveyed W H now ks v) (good : T (all? (slotSound W H now) ks)) where
   -- the i-th live task
-  abbrev task : ℕ → Task
+  abbrev pub task : ℕ → Task
   task i = getD (liveIn ks) i freeSlot
 
-  each : (i : ℕ) → i < length (liveIn ks) → SoundTask W H now (task i)
+  pub each : (i : ℕ) → i < length (liveIn ks) → SoundTask W H now (task i)
   unfolding slotSound
   each i h =
       let m = keep-in live ks (getD-in (liveIn ks) i freeSlot h) in
@@ -89,19 +89,19 @@ module _ (W H now : ℕ) (ks : List Task) (v : Findings) (o : Surveyed W H now k
     inside : i < v .count
     inside = omega (arith, o .count)
 
-    id-at : getD (v .id) i 0 ≡ task i .id
+    pub id-at : getD (v .id) i 0 ≡ task i .id
     id-at = holds-at (λ k. k .id) (v .id) (v .count) (liveIn ks) freeSlot (o .ids) (o .count) i inside
 
-    start-at : getD (v .start) i 0 ≡ task i .start
+    pub start-at : getD (v .start) i 0 ≡ task i .start
     start-at = holds-at (λ k. k .start) (v .start) (v .count) (liveIn ks) freeSlot (o .starts) (o .count) i inside
 
-    finish-at : getD (v .finish) i 0 ≡ finish (task i)
+    pub finish-at : getD (v .finish) i 0 ≡ finish (task i)
     finish-at = holds-at finish (v .finish) (v .count) (liveIn ks) freeSlot (o .finishes good) (o .count) i inside
 
-    left-at : getD (v .left) i 0 ≡ task i .column
+    pub left-at : getD (v .left) i 0 ≡ task i .column
     left-at = holds-at (λ k. k .column) (v .left) (v .count) (liveIn ks) freeSlot (o .lefts) (o .count) i inside
 
-    past-at : getD (v .past) i 0 ≡ task i .column + task i .w
+    pub past-at : getD (v .past) i 0 ≡ task i .column + task i .w
     past-at = holds-at (λ k. k .column + k .w) (v .past) (v .count) (liveIn ks) freeSlot (o .pasts) (o .count) i inside
 
   -- apart in the arrays is apart as tasks

@@ -161,3 +161,8 @@ agree-either true true = refl
 agree-either true false = refl
 agree-either false true = refl
 agree-either false false = refl
+
+-- every slot of a sound board by itself is sound
+pub each-sound : (W H now : ℕ) (ks : List Task) → T (sound W H now ks) → T (all? (slotSound W H now) ks)
+unfolding sound
+each-sound W H now ks s = search (and-l, and-r) depth 9

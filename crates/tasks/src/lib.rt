@@ -1,7 +1,7 @@
 // The task's own record: what a slot of the board holds, and what a submission asks for.
 ghost use mathlib.Core.Path.{_≡_};
 ghost use Rattle.tasks.specs.Numbers.{sizeFits, timeFits};
-ghost use Rattle.tasks.specs.Tasks.{live, runningPhase, stamped, freeSlot, zeros};
+ghost use Rattle.tasks.specs.Tasks.{live, runningPhase, stamped, freeSlot, zeros, booked};
 
 // "each record carries its phase: waiting, running or ended". Ended is first: a free slot is then all zeros.
 pub enum Phase {
@@ -116,4 +116,23 @@ pub fn time_fits(e: u32, d: u32) -> bool
     ensures { λ r. ⌜ r ≡ timeFits e d ⌝ }
 {
     ((1 <= e) & (e <= 1_000_000)) & (d <= 2_000_000_000)
+}
+
+// The record as submitted with the column and start answered, in the phase that it has at now.
+pub fn booked(clock: u32, a: Submission, start: u32, column: u16) -> Task
+    ensures { λ r. ⌜ r ≡ booked clock a start column ⌝ }
+{
+    stamp(
+        Task {
+            id: a.id,
+            e: a.e,
+            d: a.d,
+            start: start,
+            w: a.w,
+            h: a.h,
+            column: column,
+            phase: Phase::Ended,
+        },
+        clock,
+    )
 }

@@ -1,0 +1,4 @@
+pub mod Raising
+pub mod Pressing
+pub mod Looking
+pub mod Walking

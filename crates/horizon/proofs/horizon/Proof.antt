@@ -1,0 +1,79 @@
+-- `horizon::horizon` meets its contract: the loop goes along the visited times, and each break answers. Assumes nothing.
+use Prim.Native.Nat.{_-_}
+use mathlib.Core.Path.{refl}
+use native.Mathlib.Omega.{arith}
+use borrow.Author.Needs.{needs}
+use Rattle.planners.specs.Planners.{release}
+use Rattle.planners.specs.Lent.{tasksOf, asked}
+use Rattle.horizon.specs.Steps.{Pressed}
+use Rattle.horizon.proofs.Walking.{press-release, Visits, visit-first, visit-found, visit-nothing, visit-next}
+use Rattle.horizon.proofs.horizon.Statement.{statement}
+use Rattle.horizon.proofs.horizon.Tie as tie
+
+abbrev Inv-walk : tie.InvT-walk
+Inv-walk start finish left past count width clock w e d ends at n last t₀ t =
+    Pressed (release clock (tasksOf count start finish left past)) width ends at n × Visits width clock (tasksOf count start finish left past) (asked w e d) t
+
+abbrev μ-walk : tie.MeasureT-walk
+μ-walk start finish left past count width clock w e d ends at n last t₀ t = d - e - t
+
+releases-requires : tie.Need-releases-requires Inv-walk μ-walk
+releases-requires c κs = c .pre .0
+
+steps-requires : tie.Need-steps-requires Inv-walk μ-walk
+steps-requires c κs = (refl, refl, omega arith, omega (arith, c .before .before .before .before .pre .0 .wide))
+
+sub-last : tie.Need-sub-last Inv-walk μ-walk
+sub-last c = search needs
+
+walk-holds : tie.Need-walk-holds Inv-walk μ-walk
+walk-holds c =
+    let s = c .before .before .before .before .before in
+    (press-release (c .before .before .before .before .releases .result) _ (s .pre .0 .wide) (c .before .before .before .before .releases .ensures) (c .steps .ensures), visit-first _ _ _ _ (omega arith))
+
+look-requires : tie.Need-look-requires Inv-walk μ-walk
+look-requires c κs = (omega arith, c .before .before .walk .inv .0 .steps)
+
+walk-less : tie.Need-walk-less Inv-walk μ-walk
+walk-less c =
+    let k = c .before .before .before .before in
+    let v = k .before .before .before .walk .inv in
+    let s = k .before .before .before .before .before .before .before .before .before .pre in
+    omega (arith, visit-next _ _ _ _ (s .0 .wide) (k .look .ensures _ _ (v .0)) (v .1) (c .before .before .if1 .left) (c .if2 .left) (omega arith) .0)
+
+walk-again : tie.Need-walk-again Inv-walk μ-walk
+walk-again c =
+    let k = c .before .before .before .before in
+    let v = k .before .before .before .walk .inv in
+    let s = k .before .before .before .before .before .before .before .before .before .pre in
+    (v .0, visit-next _ _ _ _ (s .0 .wide) (k .look .ensures _ _ (v .0)) (v .1) (c .before .before .if1 .left) (c .if2 .left) (omega arith) .1)
+
+returns : tie.Need-returns Inv-walk μ-walk
+returns c =
+    let k = c .before .before .before in
+    let v = k .before .before .before .walk .inv in
+    let s = k .before .before .before .before .before .before .before .before .before .pre in
+    visit-found _ _ _ _ (s .0 .wide) (k .look .ensures _ _ (v .0)) (v .1) (c .before .if1 .taken)
+
+returns-2 : tie.Need-returns-2 Inv-walk μ-walk
+returns-2 c =
+    let k = c .before .before .before .before in
+    let v = k .before .before .before .walk .inv in
+    let s = k .before .before .before .before .before .before .before .before .before .pre in
+    visit-nothing _ _ _ _ (s .0 .wide) (k .look .ensures _ _ (v .0)) (v .1) (c .before .before .if1 .left) (c .if2 .taken)
+
+pub horizon-spec : {M : Type 1} → statement M
+horizon-spec =
+    tie.close
+    (tie.spec
+    Inv-walk
+    μ-walk
+    releases-requires
+    steps-requires
+    sub-last
+    walk-holds
+    look-requires
+    walk-less
+    walk-again
+    returns
+    returns-2)

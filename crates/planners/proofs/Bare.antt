@@ -1,0 +1,112 @@
+-- A planner reads of a task only its columns and its ticks: the arrays that it is lent stand for the live tasks. Assumes nothing.
+use Prim.Native.Nat.{ℕ, zero, suc, _+_, _-_, _≤_, _<_}
+use mathlib.Core.Path.{_≡_, refl, sym, ap, ap₂, _∙_, subst, fun-ext}
+use mathlib.Core.Bool.{Bool, true, false, not, _&&_}
+use mathlib.Core.Option.{Option, none, some}
+use mathlib.Core.List.{List, [], _∷_, map}
+use native.Mathlib.Omega.{arith}
+use lib.Dec.{leb, ltb, leb→le, ltb→lt, not-T}
+use lib.ListN.{length, take, getD}
+use Rattle.lists.specs.Lists.{some?, keep, head?, orElse, firstOf, highest, range, rising}
+use Rattle.lists.proofs.Bools.{and-l, and-r}
+use Rattle.lists.proofs.Members.{keep-no}
+use Rattle.lists.proofs.Append.{some-map, keep-map, map-map, map-range, holds-at}
+use Rattle.ways.specs.Ways.{Pair, Ways, isOpen, pairsIn, openingsIn}
+use Rattle.tasks.specs.declared.Phase.the-variants.{Ended}
+use Rattle.tasks.specs.declared.Task.{Task}
+use Rattle.tasks.specs.declared.Submission.{Submission}
+use Rattle.tasks.specs.Tasks.{finish, meets, covers, holds, phaseAt, waitingPhase, stamped, booked, freeSlot}
+use Rattle.columns.specs.Columns.{columns, runs, bestFit}
+use Rattle.planners.specs.Openings.{Place, ways, openings, full}
+use Rattle.planners.specs.Planners.{free, release, leftEdge, visited, clearOfWaiting, candidates, releasedEdges, reference, horizon, stuffing, planned}
+use Rattle.planners.specs.Lent.{taskAt, tasksOf, asked}
+
+-- a task by what a planner reads of it
+abbrev pub bare : Task → Task
+bare u = record { id = 0; e = u .e; d = 0; start = u .start; w = u .w; h = 0; column = u .column; phase = Ended }
+
+-- THE ARRAYS STAND FOR THE TASKS
+pub lent-tasks : (n : ℕ) (s f l r : List ℕ) (ts : List Task) → n ≡ length ts → take n s ≡ map (λ k. k .start) ts → take n f ≡ map finish ts → take n l ≡ map (λ k. k .column) ts → take n r ≡ map (λ k. k .column + k .w) ts
+    → tasksOf n s f l r ≡ map bare ts
+unfolding tasksOf
+lent-tasks n s f l r ts z ss ff ll rr =
+    ap (λ m. map (taskAt s f l r) (range 0 m)) z ∙ map-range (taskAt s f l r) bare 0 ts freeSlot each
+  where
+    each : (i : ℕ) → i < length ts → taskAt s f l r (0 + i) ≡ bare (getD ts i freeSlot)
+    each i h =
+        let o : 0 + i ≡ i = omega arith in
+        let k : i < n = omega arith in
+        ap (taskAt s f l r) o ∙ same (getD ts i freeSlot)
+        (holds-at (λ k. k .start) s n ts freeSlot ss z i k) (holds-at finish f n ts freeSlot ff z i k)
+        (holds-at (λ k. k .column) l n ts freeSlot ll z i k) (holds-at (λ k. k .column + k .w) r n ts freeSlot rr z i k)
+      where
+        same : (u : Task) → getD s i 0 ≡ u .start → getD f i 0 ≡ finish u → getD l i 0 ≡ u .column → getD r i 0 ≡ u .column + u .w → taskAt s f l r i ≡ bare u
+        same u a b c d =
+            let x : getD f i 0 - getD s i 0 ≡ u .e = omega arith in
+            let y : getD r i 0 - getD l i 0 ≡ u .w = omega arith in
+            λ j. record { id = 0; e = x j; d = 0; start = a j; w = y j; h = 0; column = c j; phase = Ended }
+
+module _ (W now : ℕ) (ts : List Task) (a : Submission) where
+  abbrev us : List Task
+  us = map bare ts
+
+  free-bare : (i : ℕ) → free us i ≡ free ts i
+  free-bare i = fun-ext (λ c. unfold free holds covers in ap not (some-map (holds i c) bare ts))
+
+  release-bare : release now us ≡ release now ts
+  release-bare = fun-ext (λ c. unfold release covers in ap (highest now) (ap (map finish) (keep-map (covers c) bare ts) ∙ map-map finish bare (keep (covers c) ts)))
+
+  finish-bare : map finish us ≡ map finish ts
+  finish-bare = map-map finish bare ts
+
+  clear-bare : (i : ℕ) → clearOfWaiting W now us a i ≡ clearOfWaiting W now ts a i
+  clear-bare i =
+      fun-ext (λ p. unfold clearOfWaiting phaseAt meets in ap not (some-map (λ u. waitingPhase (phaseAt i u) && meets (booked now a (p .start) (p .place)) u) bare ts))
+
+  candidates-bare : candidates W now us a ≡ candidates W now ts a
+  candidates-bare =
+      fun-ext (λ i. unfold candidates in ap₂ (λ p f. keep p (map (leftEdge i) (bestFit (a .w) (runs f (columns W))))) (clear-bare i) (free-bare i))
+
+  released-bare : releasedEdges W now us a ≡ releasedEdges W now ts a
+  released-bare = fun-ext (λ i. unfold releasedEdges in ap (λ f. map (leftEdge i) (bestFit (a .w) (runs (λ c. leb (f c) i) (columns W)))) release-bare)
+
+  pub stuffing-bare : stuffing W now us a ≡ stuffing W now ts a
+  unfolding stuffing visited
+  stuffing-bare = ap₂ (λ f xs. firstOf (λ i. head? (f i)) (visited W now ts a xs)) candidates-bare finish-bare
+
+  pub reference-bare : reference W now us a ≡ reference W now ts a
+  unfolding reference
+  reference-bare = ap (λ f. head? (f now)) candidates-bare
+
+  pub horizon-bare : horizon W now us a ≡ horizon W now ts a
+  unfolding horizon visited
+  horizon-bare = ap₂ (λ f g. firstOf (λ i. head? (f i)) (visited W now ts a (map g (columns W)))) released-bare release-bare
+
+  pub openings-bare : openings W now us a ≡ openings W now ts a
+  unfolding openingsIn pairsIn ways
+  openings-bare =
+      ap (λ p. keep p (pairsIn (ways W now ts a)))
+      (fun-ext (λ q. unfold isOpen meets in ap not (some-map (meets (booked now a (q .start) (q .place))) bare ts)))
+
+  pub full-bare : full W now us a ≡ full W now ts a
+  unfolding full
+  full-bare = ap head? openings-bare
+
+-- REFERENCE is Stuffing with no time after now: its deadline is now + e
+pub reference-is : (W now : ℕ) (ts : List Task) (w e d : ℕ) → reference W now ts (asked w e d) ≡ stuffing W now ts (asked w e (now + e))
+unfolding reference stuffing visited firstOf orElse candidates clearOfWaiting booked stamped meets
+reference-is W now ts w e d = last (head? (candidates W now ts (asked w e (now + e)) now)) ∙ ap (λ l. firstOf (λ i. head? (candidates W now ts (asked w e (now + e)) i)) (now ∷ l)) (sym none-later)
+  where
+    last : (o : Option Place) → o ≡ orElse o none
+    last none = refl
+    last (some p) = refl
+
+    later : ℕ → Bool
+    later i = ltb now i && leb (i + e) (now + e)
+
+    no-later : (xs : List ℕ) → keep later xs ≡ []
+    no-later [] = unfold keep in refl
+    no-later (x ∷ xs) = keep-no later x xs (not-T (later x) (λ t. let p = ltb→lt now x (and-l (ltb now x) (leb (x + e) (now + e)) t) in let q = leb→le (x + e) (now + e) (and-r (ltb now x) (leb (x + e) (now + e)) t) in omega arith)) ∙ no-later xs
+
+    none-later : keep later (rising (map finish ts)) ≡ []
+    none-later = no-later (rising (map finish ts))
