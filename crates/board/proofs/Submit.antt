@@ -1,5 +1,5 @@
 -- A submission to a sound board: what was surveyed serves the refusals, the planners and the booking. Assumes nothing.
-use Prim.Native.Nat.{ℕ, zero, suc, _+_, _≤_, _<_}
+use Prim.Native.Nat.{ℕ, zero, suc, _+_, _%_, _≤_, _<_}
 use mathlib.Core.Path.{_≡_, refl, sym, ap, _∙_, subst}
 use mathlib.Core.Logic.{_⊎_, inl, inr}
 use mathlib.Core.Bool.{Bool, true, false, not}
@@ -35,8 +35,10 @@ use Rattle.slots.proofs.Pairs.{task, each, start-at, finish-at, left-at, past-a
 use Rattle.board.specs.declared.Board.{Board}
 use Rattle.board.specs.declared.Answer.the-variants.{Rejected, Placed, Refused}
 use Rattle.board.specs.declared.Submitted.{Submitted}
+use Rattle.board.specs.Answers.{told}
 use Rattle.board.specs.Refusals.{Test, _when_, refusal, liveOf, soundBoard, unsound, badSize, badTime, tooLate, refusedSubmit}
 use Rattle.board.specs.Calls.{orRefused, withTasks, withTask, taken, answered, submitted}
+use Rattle.board.specs.Untested.{submittedBooked}
 use Rattle.board.proofs.Refusals.{sound-passes, unsound-refused}
 use Rattle.board.proofs.Kept.{SoundBoard, Accepted, submit-accepted}
 
@@ -153,8 +155,58 @@ free-inside b n a k = go (bool (some? isFree (b .tasks)))
 
 -- the booking stands in the lowest free slot
 pub booked-there : (b : Board) (a : Submission) (c t free : ℕ) → free ≡ indexOf (λ k. not (live k)) (b .tasks)
-    → taken b a (some (pair t c)) ≡ record { answer = Placed c t (t + a .e); board = withTasks b (set (b .tasks) free (booked (b .now) a t c)) }
+    → taken b a (some (pair t c)) ≡ submittedBooked b a free c t
 unfolding taken withTask withBooked
 booked-there b a c t free e =
     ap (λ ks. record { answer = Placed c t (t + a .e); board = withTasks b ks })
     (put-index (λ k. not (live k)) (booked (b .now) a t c) (b .tasks) ∙ ap (λ i. set (b .tasks) i (booked (b .now) a t c)) (sym e))
+
+pub is-three : (n : ℕ) → n ≤ 3 → (n ≡ 0 → ⊥) → (n ≡ 1 → ⊥) → (n ≡ 2 → ⊥) → n ≡ 3
+is-three zero h a b c = absurd (a refl)
+is-three (suc zero) h a b c = absurd (b refl)
+is-three (suc (suc zero)) h a b c = absurd (c refl)
+is-three (suc (suc (suc zero))) h a b c = refl
+is-three (suc (suc (suc (suc n)))) h a b c = absurd (omega arith)
+
+-- THE PROMISE: the answer, the board, and document 01's number and values
+pub promised : (r q : Submitted) → r ≡ q → (r ≡ q) × (told (r .answer) ≡ told (q .answer))
+promised r q e = (e, ap (λ x. told (x .answer)) e)
+
+module _ (b : Board) (n : ℕ) (a : Submission) (v : Findings) (o : Surveyed (b .columns) (b .rows) (b .now) (b .tasks) v) (good : soundBoard b ≡ true) {slot r : ℕ}
+    (e : slot ≡ indexOf (named (a .id)) (b .tasks)) (q : r ≡ refusal (testsAfter b n a (ltb slot 64) (v .count))) (z : r ≡ 0) where
+  k : Accepted b n a
+  k = accepted b n a v o good e q z
+
+  none-refused : refusedSubmit b n a ≡ 0
+  none-refused = refused-after b n a v o good e ∙ sym q ∙ z
+
+  abbrev lentTasks : List Task
+  lentTasks = tasksOf (v .count) (v .start) (v .finish) (v .left) (v .past)
+
+  -- what `place` asks
+  pub may-ask : OnDevice (b .columns) (v .count) (v .start) (v .finish) (v .left) (v .past) × ((n ≤ 3) × (1 ≤ a .w) × (a .w ≤ b .columns) × (1 ≤ a .e) × (b .now + a .e ≤ a .d) × (a .d ≤ 2000000000))
+  may-ask = (on-device b n a v o good, (k .planner, k .w .low, k .w .high, k .e .low, k .reachable, k .d))
+
+  -- no place was found: the rejection
+  pub rejected : {f : Found} → f ≡ foundOf (planned (b .columns) (b .now) lentTasks (asked (a .w) (a .e) (a .d)) n) → f ≡ Nothing → record { answer = Rejected; board = b } ≡ submitted b n a
+  unfolding taken
+  rejected x y =
+      let m = found-none (planned (b .columns) (b .now) (liveOf b) a n) (sym y ∙ x ∙ planned-lent b n a v o good (k .planner)) in
+      sym (accepted-answered b n a none-refused ∙ ap (taken b a) m)
+
+  -- a place was found
+  pub record Settled (c t : ℕ) : Type 0 where
+    pub inside : v .free < 64
+    pub fits : t + a .e ≤ 4294967295
+    pub same : submittedBooked b a (v .free) (c % 65536) t ≡ submitted b n a
+
+  pub settled : {f : Found} {c t : ℕ} → f ≡ foundOf (planned (b .columns) (b .now) lentTasks (asked (a .w) (a .e) (a .d)) n) → f ≡ At c t → Settled c t
+  settled {f} {c} {t} x y =
+      let m = found-some (planned (b .columns) (b .now) (liveOf b) a n) (sym y ∙ x ∙ planned-lent b n a v o good (k .planner)) in
+      let w = planned-opens (b .columns) (b .now) (liveOf b) a (k .reachable) n m in
+      let u : c % 65536 ≡ c = omega (arith, w .on-device, k .sound .columns .high) in
+      record {
+        inside = omega (arith, o .free, free-inside b n a k);
+        fits = omega (arith, w .in-time, k .d);
+        same = ap (λ h. submittedBooked b a (v .free) h t) u ∙ sym (booked-there b a c t (v .free) (o .free)) ∙ sym (accepted-answered b n a none-refused ∙ ap (taken b a) m);
+      }

@@ -1,14 +1,17 @@
 -- The calls of a recording's run, without the test of refusal 1: what they answer for every board. No public promise cites them. Assumes nothing.
-use Prim.Native.Nat.{ℕ}
+use Prim.Native.Nat.{ℕ, _+_}
 use mathlib.Core.Bool.{cond}
 use mathlib.Core.List.{[], _∷_}
 use lib.Dec.{ltb}
 use lib.ListN.{getD, set}
 use Rattle.lists.specs.Lists.{indexOf}
 use Rattle.tasks.specs.Numbers.{mostTasks}
-use Rattle.tasks.specs.Tasks.{runningPhase, freeSlot}
+use Rattle.tasks.specs.declared.Submission.{Submission}
+use Rattle.tasks.specs.Tasks.{runningPhase, freeSlot, booked}
 use Rattle.slots.specs.Slots.{named}
 use Rattle.board.specs.declared.Board.{Board}
+use Rattle.board.specs.declared.Answer.the-variants.{Placed}
+use Rattle.board.specs.declared.Submitted.{Submitted}
 use Rattle.board.specs.declared.Clocked.{Clocked}
 use Rattle.board.specs.declared.Withdrawn.{Withdrawn}
 use Rattle.board.specs.Refusals.{refusal, passed, beyond}
@@ -30,3 +33,8 @@ withdrawnAt b i =
 -- withdrawal after test 1: of the first live task of that id
 unfoldable pub withdrawnUntested : Board → ℕ → Withdrawn
 withdrawnUntested b n = withdrawnAt b (indexOf (named n) (b .tasks))
+
+-- a task booked into a slot
+abbrev pub submittedBooked : Board → Submission → ℕ → ℕ → ℕ → Submitted
+submittedBooked b a i c t =
+    record { answer = Placed c t (t + a .e); board = withTasks b (set (b .tasks) i (booked (b .now) a t c)) }

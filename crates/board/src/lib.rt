@@ -1,9 +1,23 @@
 // The board of document 01, its calls and what they answer. The calls test what they are handed and put the answer together;
 // the work is done in the crates below.
 ghost use mathlib.Core.Path.{_≡_};
-ghost use Rattle.board.specs.Refusals.{soundBoard};
-ghost use Rattle.board.specs.Calls.{freshBoard, created, clocked, withdrawn};
-ghost use Rattle.board.specs.Untested.{clockedUntested, withdrawnUntested};
+ghost use mathlib.Core.Bool.{not};
+ghost use mathlib.Core.List.{[], _∷_};
+ghost use Prim.Native.Nat.{_+_, _≤_, _<_};
+ghost use lib.Dec.{leb, ltb, eqb};
+ghost use lib.ListN.{set};
+ghost use Rattle.tasks.specs.Numbers.{sizeFits, timeFits};
+ghost use Rattle.tasks.specs.Tasks.{booked};
+ghost use Rattle.planners.specs.Planners.{planned};
+ghost use Rattle.planners.specs.Lent.{foundOf, tasksOf, OnDevice, asked};
+ghost use Rattle.board.specs.declared.Answer.the-variants.{Placed};
+ghost use Rattle.board.specs.Answers.{told};
+ghost use Rattle.board.specs.Refusals.{_when_, refusal, soundBoard};
+ghost use Rattle.board.specs.Calls.{withTasks, freshBoard, created, submitted, clocked, withdrawn};
+ghost use Rattle.board.specs.Untested.{clockedUntested, withdrawnUntested, submittedBooked};
+use planners::Found;
+use slots::Findings;
+use tasks::Submission;
 use tasks::Task;
 
 // "A board is a device of W columns and H rows, a clock called now, and at most 64 live tasks."
@@ -68,6 +82,105 @@ pub struct Counted {
     pub board: Board,
 }
 
+// The refusals of a submission after 1: 3 to 9, the lowest number first, 0 where none holds. `known`: the id is live already.
+fn refuse(
+    planner: u8,
+    columns: u16,
+    rows: u16,
+    clock: u32,
+    a: Submission,
+    known: bool,
+    count: usize,
+) -> u8
+    ensures { λ r. ⌜ r ≡ refusal ((3 when ltb 3 planner) ∷ (4 when eqb (a .id) 0) ∷ (5 when not (sizeFits columns rows (a .w) (a .h))) ∷ (6 when not (timeFits (a .e) (a .d))) ∷ (7 when known) ∷ (8 when ltb (a .d) (clock + a .e)) ∷ (9 when leb 64 count) ∷ []) ⌝ }
+{
+    if 3 < planner {
+        return 3;
+    }
+    if a.id == 0 {
+        return 4;
+    }
+    if !tasks::size_fits(columns, rows, a.w, a.h) {
+        return 5;
+    }
+    if !tasks::time_fits(a.e, a.d) {
+        return 6;
+    }
+    if known {
+        return 7;
+    }
+    if (a.d as u64) < clock as u64 + a.e as u64 {
+        return 8;
+    }
+    if 64 <= count {
+        return 9;
+    }
+    0
+}
+
+// The place that the named planner finds among the live tasks. Reference is Stuffing with no time after now.
+fn place(planner: u8, v: Findings, width: u32, clock: u32, w: u32, e: u32, d: u32) -> Found
+    requires { ⌜ OnDevice width (v .count) (v .start) (v .finish) (v .left) (v .past) ⌝ }
+    requires { ⌜ (planner ≤ 3) × (1 ≤ w) × (w ≤ width) × (1 ≤ e) × (clock + e ≤ d) × (d ≤ 2000000000) ⌝ }
+    ensures { λ r. ⌜ r ≡ foundOf (planned width clock (tasksOf (v .count) (v .start) (v .finish) (v .left) (v .past)) (asked w e d) planner) ⌝ }
+{
+    let n = v.count;
+    if planner == 0 {
+        return stuffing::stuffing(
+            &v.start,
+            &v.finish,
+            &v.left,
+            &v.past,
+            n,
+            width,
+            clock,
+            w,
+            e,
+            clock + e,
+        );
+    }
+    if planner == 1 {
+        return horizon::horizon(
+            &v.start,
+            &v.finish,
+            &v.left,
+            &v.past,
+            n,
+            width,
+            clock,
+            w,
+            e,
+            d,
+        );
+    }
+    if planner == 2 {
+        return stuffing::stuffing(
+            &v.start,
+            &v.finish,
+            &v.left,
+            &v.past,
+            n,
+            width,
+            clock,
+            w,
+            e,
+            d,
+        );
+    }
+    full::full(
+        &v.start,
+        &v.finish,
+        &v.left,
+        &v.past,
+        n,
+        width,
+        clock,
+        w,
+        e,
+        d,
+    )
+}
+
 // "A new board has the W and H asked for, now 0 and 64 free slots".
 fn fresh(columns: u16, rows: u16) -> Board
     ensures { λ r. ⌜ r ≡ freshBoard columns rows ⌝ }
@@ -107,6 +220,71 @@ impl Board {
     {
         let tasks = self.tasks;
         slots::is_sound(self.columns, self.rows, self.now, tasks)
+    }
+
+    // A task submitted to a planner: 1, 3 to 9; a place, or the rejection.
+    pub fn submit(self, planner: u8, a: Submission) -> Submitted
+        ensures { λ r. ⌜ r ≡ submitted self planner a ⌝ }
+        ensures { λ r. ⌜ told (r .answer) ≡ told (submitted self planner a .answer) ⌝ }
+    {
+        let tasks = self.tasks;
+        let v = slots::survey(self.columns, self.rows, self.now, tasks);
+        if !slots::found_sound(self.columns, self.rows, self.now, v) {
+            return Submitted {
+                answer: Answer::Refused(1),
+                board: self,
+            };
+        }
+        let slot = slots::slot_named(tasks, a.id);
+        let number = refuse(
+            planner,
+            self.columns,
+            self.rows,
+            self.now,
+            a,
+            slot < 64,
+            v.count,
+        );
+        if 0 < number {
+            return Submitted {
+                answer: Answer::Refused(number),
+                board: self,
+            };
+        }
+        let free = v.free;
+        let found = place(
+            planner,
+            v,
+            self.columns as u32,
+            self.now,
+            a.w as u32,
+            a.e,
+            a.d,
+        );
+        match found {
+            Found::Nothing => Submitted {
+                answer: Answer::Rejected,
+                board: self,
+            },
+            Found::At { column, start } => self.book(a, free, (column % 65536) as u16, start),
+        }
+    }
+
+    // A task booked into a slot.
+    fn book(mut self, a: Submission, slot: usize, column: u16, start: u32) -> Submitted
+        requires { ⌜ (slot < 64) × (start + a .e ≤ 4294967295) ⌝ }
+        ensures { λ r. ⌜ r ≡ submittedBooked self a slot column start ⌝ }
+    {
+        let clock = self.now;
+        self.tasks[slot] = tasks::booked(clock, a, start, column);
+        Submitted {
+            answer: Answer::Placed {
+                column: column,
+                start: start,
+                finish: start + a.e,
+            },
+            board: self,
+        }
     }
 
     // The clock moved to an instant: 1, 11, 12.

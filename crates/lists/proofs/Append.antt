@@ -2,15 +2,15 @@
 use Prim.Native.Nat.{ℕ, zero, suc, _+_, _-_, _≤_, _<_}
 use mathlib.Core.Path.{_≡_, refl, sym, ap, ap₂, _∙_, subst}
 use mathlib.Core.Logic.{_⊎_, inl, inr}
-use mathlib.Core.Bool.{Bool, true, false, not, cond, _&&_, _||_}
-use mathlib.Core.List.{List, [], _∷_, _++_, map, append-nil, append-assoc, map-append}
+use mathlib.Core.Bool.{Bool, true, false, not, cond, _&&_, _||_, or-assoc, or-false}
+use mathlib.Core.List.{List, [], _∷_, _++_, map, append-nil, append-assoc, map-append, List·Memᴰ·head as here, List·Memᴰ·tail as there}
 use native.Mathlib.Omega.{arith}
 use native.Mathlib.Numerals.{add-one}
 use lib.Dec.{T, ltb, leb·suc-suc, T-not}
 use borrow.Author.Tests.{lt-ltb}
 use lib.ListN.{length, take, drop, set, getD, List·getD-map, length-map, length-set, drop-of-length-le}
 use lib.Seq.{take-suc, take-all, length-take-le, drop-cons, take-suc-set, take-set-le, getD-take, getD-set-same, getD-set-other, set-at, getD-at}
-use Rattle.lists.specs.Lists.{keep, some?, all?, pairwise?, indexOf, putFirst, range}
+use Rattle.lists.specs.Lists.{_∈_, keep, some?, all?, pairwise?, indexOf, putFirst, range}
 use Rattle.lists.proofs.Bools.{bool}
 use Rattle.lists.proofs.Members.{keep-yes, keep-no}
 
@@ -198,18 +198,26 @@ put-keeps p x l i d h t =
 pub length-put : {A : Type 0} (p : A → Bool) (x : A) (l : List A) → length (putFirst p x l) ≡ length l
 length-put p x l = ap length (put-index p x l) ∙ length-set l (indexOf p l) x
 
-pub some-append : {A : Type 0} (p : A → Bool) (xs : List A) (y : A) → some? p (xs ++ (y ∷ [])) ≡ (some? p xs || p y)
+pub some-append : {A : Type 0} (p : A → Bool) (xs ys : List A) → some? p (xs ++ ys) ≡ (some? p xs || some? p ys)
 unfolding some?
-some-append p [] y = last (p y)
-  where
-    last : (b : Bool) → (b || false) ≡ b
-    last true = refl
-    last false = refl
-some-append p (x ∷ xs) y = step (p x) (some-append p xs y)
-  where
-    step : (b : Bool) → some? p (xs ++ (y ∷ [])) ≡ (some? p xs || p y) → (b || some? p (xs ++ (y ∷ []))) ≡ ((b || some? p xs) || p y)
-    step true e = refl
-    step false e = e
+some-append p [] ys = refl
+some-append p (x ∷ xs) ys = ap (λ b. p x || b) (some-append p xs ys) ∙ sym (or-assoc (p x) (some? p xs) (some? p ys))
+
+-- one element more
+pub some-more : {A : Type 0} (p : A → Bool) (xs : List A) (y : A) → some? p (xs ++ (y ∷ [])) ≡ (some? p xs || p y)
+unfolding some?
+some-more p xs y = some-append p xs (y ∷ []) ∙ ap (λ b. some? p xs || b) (or-false (p y))
+
+pub some-range-more : (p : ℕ → Bool) (m : ℕ) → some? p (range 0 (m + 1)) ≡ (some? p (range 0 m) || p m)
+some-range-more p m =
+    let e : 0 + m ≡ m = omega arith in
+    ap (some? p) (range-more 0 m) ∙ some-more p (range 0 m) (0 + m) ∙ ap (λ x. some? p (range 0 m) || p x) e
+
+-- tests that agree on a list
+pub some-same : {A : Type 0} (p q : A → Bool) (xs : List A) → ((a : A) → a ∈ xs → p a ≡ q a) → some? p xs ≡ some? q xs
+unfolding some?
+some-same p q [] f = refl
+some-same p q (x ∷ xs) f = ap₂ _||_ (f x (here refl)) (some-same p q xs (λ a m. f a (there m)))
 
 pub some-map : {A B : Type 0} (p : B → Bool) (g : A → B) (xs : List A) → some? p (map g xs) ≡ some? (λ x. p (g x)) xs
 unfolding some?

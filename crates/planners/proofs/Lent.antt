@@ -8,7 +8,7 @@ use lib.Dec.{T, leb, ltb}
 use lib.ListN.{getD}
 use Rattle.lists.specs.Lists.{_∈_, some?, range}
 use Rattle.lists.proofs.Members.{map-in, in-map, range-in, in-range}
-use Rattle.lists.proofs.Append.{range-more, range-first, some-append, some-map}
+use Rattle.lists.proofs.Append.{range-more, range-first, some-more, some-map}
 use Rattle.tasks.specs.declared.Task.{Task}
 use Rattle.tasks.specs.Tasks.{finish, holds, covers, overlap}
 use Rattle.tasks.proofs.Laws.{overlap-either}
@@ -25,7 +25,7 @@ module _ (s f l r : List ℕ) where
   -- a column is free among one task more if it was, and that task does not hold it
   pub free-more : (i t c : ℕ) → free (tasksOf (i + 1) s f l r) t c ≡ (free (tasksOf i s f l r) t c && not (holds t c (taskAt s f l r i)))
   unfolding free
-  free-more i t c = ap (λ x. not (some? (holds t c) x)) (tasks-more i) ∙ ap not (some-append (holds t c) (tasksOf i s f l r) (taskAt s f l r i)) ∙ both (some? (holds t c) (tasksOf i s f l r)) (holds t c (taskAt s f l r i))
+  free-more i t c = ap (λ x. not (some? (holds t c) x)) (tasks-more i) ∙ ap not (some-more (holds t c) (tasksOf i s f l r) (taskAt s f l r i)) ∙ both (some? (holds t c) (tasksOf i s f l r)) (holds t c (taskAt s f l r i))
     where
       both : (a b : Bool) → not (a || b) ≡ (not a && not b)
       both true b = refl

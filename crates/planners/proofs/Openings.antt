@@ -58,6 +58,10 @@ module _ (W now : ℕ) (ts : List Task) (a : Submission) where
     first = λ c m. lt→ltb 0 c (range-in 1 (suc W - a .w) m .low);
   }
 
+  pub leaves-finish : (u : Task) → lawful .leaves u ≡ finish u
+  unfolding lawful
+  leaves-finish u = refl
+
   after-before : (p q : Place) → After (ways W now ts a) p q → Before p q
   unfolding ways
   after-before p q (sooner h) = earlier h
@@ -68,7 +72,7 @@ module _ (W now : ℕ) (ts : List Task) (a : Submission) where
   before-after p q (earlier h) = sooner h
   before-after p q (lower e h) = beside e (lt→ltb (p .place) (q .place) h)
 
-  open-opening : (p : Place) → Open (ways W now ts a) p → Opening W now ts a p
+  pub open-opening : (p : Place) → Open (ways W now ts a) p → Opening W now ts a p
   unfolding ways isOpen booked stamped
   open-opening p o =
       let z = range-in 1 (suc W - a .w) (o .on-board) in
@@ -81,7 +85,7 @@ module _ (W now : ℕ) (ts : List Task) (a : Submission) where
             (share-meets (booked now a (p .start) (p .place)) u (record { column = x; tick = y }));
       }
 
-  opening-open : (p : Place) → Opening W now ts a p → Open (ways W now ts a) p
+  pub opening-open : (p : Place) → Opening W now ts a p → Open (ways W now ts a) p
   unfolding ways isOpen booked stamped
   opening-open p o = record {
     from-now = o .from-now;

@@ -142,19 +142,19 @@ module _ (W H now : ℕ) (ks : List Task) (v : Findings) (o : Surveyed W H now k
       zeroed i j = let x : 0 + i ≡ i = omega arith in let y : 0 + j ≡ j = omega arith in rw (x, y)
 
 -- WHAT WAS FOUND IS SOUND exactly if device, clock and slots are, and then by the pairs
-pub sound-found : (W H now : ℕ) (ks : List Task) (v : Findings) → length ks ≡ 64 → Surveyed W H now ks v → (b : Bool)
+pub sound-found : (W H now : ℕ) (ks : List Task) (v : Findings) → Surveyed W H now ks v → (b : Bool)
     → (deviceFits W H && leb now 2000000000 && v .sound && leb (v .count) 64) ≡ b
     → sound W H now ks ≡ cond b (pairwise? (λ i j. not (clashAt (v .id) (v .start) (v .finish) (v .left) (v .past) i j)) (range 0 (v .count))) false
 unfolding sound
-sound-found W H now ks v z o true e =
+sound-found W H now ks v o true e =
     let t : T (deviceFits W H && leb now 2000000000 && v .sound && leb (v .count) 64) = rw e tt in
     let s : T (v .sound) = search (and-l, and-r) in
     let g : T (all? (slotSound W H now) ks) = subst T (o .sound) s in
     let d : T (deviceFits W H && leb now 2000000000) = search (and-l, and-r) in
-    rw (is-true (deviceFits W H && leb now 2000000000) d, z, is-true (all? (slotSound W H now) ks) g) (sym (pairs-same W H now ks v o g))
-sound-found W H now ks v z o false e =
+    rw (is-true (deviceFits W H && leb now 2000000000) d, o .slots, is-true (all? (slotSound W H now) ks) g) (sym (pairs-same W H now ks v o g))
+sound-found W H now ks v o false e =
     let m : T (leb (v .count) 64) = le→leb (v .count) 64 (omega (arith, o .count, length-keep live ks)) in
-    rw (z, ← o .sound) (none (deviceFits W H && leb now 2000000000) (v .sound) (rw (is-true (leb (v .count) 64) m) at e))
+    rw (o .slots, ← o .sound) (none (deviceFits W H && leb now 2000000000) (v .sound) (rw (is-true (leb (v .count) 64) m) at e))
   where
     none : (a s : Bool) → (a && s && true) ≡ false → (a && true && s && pairwise? together (liveIn ks)) ≡ false
     none true true q = absurd (subst T q tt)

@@ -152,6 +152,7 @@ module _ (W H now : ℕ) (ks : List Task) where
       let t : take i ks ≡ ks = take-all i ks (omega (arith, p .size)) in
       let d : drop i ks ≡ [] = rw (e, ← p .size) (drop-length ks) in
       record {
+        slots = p .size;
         sound = p .sounds ∙ ap (all? (slotSound W H now)) t;
         free = let x : indexOf isFree ks ≡ min free (i + 0) = p .frees ∙ ap (λ x. min free (i + indexOf isFree x)) d in omega (arith, p .most);
         count = p .count ∙ ap (λ x. length (liveIn x)) t;

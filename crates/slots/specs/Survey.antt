@@ -17,6 +17,7 @@ Holds array n f ts = take n array ≡ map f ts
 
 -- the survey of the slots of a device at now
 pub record Surveyed (W H now : ℕ) (ks : List Task) (v : Findings) : Type 0 where
+  pub slots : length ks ≡ 64
   pub sound : v .sound ≡ all? (slotSound W H now) ks
   pub free : v .free ≡ indexOf (λ k. not (live k)) ks
   pub count : v .count ≡ length (liveIn ks)

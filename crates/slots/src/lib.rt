@@ -158,7 +158,7 @@ fn clashes<'a>(
 
 // The slots that were surveyed make a sound board: device and clock, each slot, each pair of live tasks.
 pub fn found_sound(columns: u16, rows: u16, now: u32, v: Findings) -> bool
-    ensures { λ r. ⌜ ((ks : List Task) → length ks ≡ 64 → Surveyed columns rows now ks v → r ≡ sound columns rows now ks) ⌝ }
+    ensures { λ r. ⌜ ((ks : List Task) → Surveyed columns rows now ks v → r ≡ sound columns rows now ks) ⌝ }
 {
     let fits = device_fits(columns, rows);
     if !(fits & (now <= 2_000_000_000) & v.sound & (v.count <= 64)) {

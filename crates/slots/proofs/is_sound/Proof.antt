@@ -10,9 +10,7 @@ found-sound-requires : tie.Need-found-sound-requires
 found-sound-requires c κs = search needs
 
 returns : tie.Need-returns
-returns c =
-    let s = c .before .before in
-    c .found-sound .ensures (s .args .tasks) (s .good .1 .1 .1 .0 .1 .0 .1) (c .before .survey .ensures)
+returns c = c .found-sound .ensures (c .before .before .args .tasks) (c .before .survey .ensures)
 
 pub is-sound-spec : {M : Type 1} → statement M
 is-sound-spec = tie.close (tie.spec survey-requires found-sound-requires returns)

@@ -1,0 +1,4 @@
+pub mod Masking
+pub mod Columns
+pub mod Free
+pub mod Walk

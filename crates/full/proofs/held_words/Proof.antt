@@ -1,0 +1,83 @@
+-- `full::held_words` meets its contract: the words passed have the columns of every task, and the others lie past the width. Assumes nothing.
+use Prim.Native.Nat.{ℕ, _+_, _-_, _*_, _≤_}
+use mathlib.Core.Path.{_≡_}
+use native.Mathlib.Omega.{arith}
+use lib.ListN.{length}
+use Rattle.full.proofs.Columns.{Gathered, gather-none, gather-more, gather-held}
+use borrow.Author.Needs.{needs}
+use Rattle.full.proofs.held_words.Statement.{statement}
+use Rattle.full.proofs.held_words.Tie as tie
+
+abbrev Inv-loop : tie.InvT-loop
+Inv-loop start finish masks count width t e end need words₀ k₀ words k = (k ≤ need) × (length words₀ ≡ 4) × Gathered start finish masks t end words₀ count words k
+
+abbrev μ-loop : tie.MeasureT-loop
+μ-loop start finish masks count width t e end need words₀ k₀ words k = need - k
+
+add-end : tie.Need-add-end Inv-loop μ-loop
+add-end c = search needs
+
+add-need : tie.Need-add-need Inv-loop μ-loop
+add-need c = search needs
+
+cast-need : tie.Need-cast-need Inv-loop μ-loop
+cast-need c = search needs
+
+loop-holds : tie.Need-loop-holds Inv-loop μ-loop
+loop-holds c = let z : length (c .args .edge) ≡ 4 = search needs in (omega arith, z, gather-none _ _ _ _ _ _ _ z)
+
+mul-held-word : tie.Need-mul-held-word Inv-loop μ-loop
+mul-held-word c = search needs
+
+mul-held-word-2 : tie.Need-mul-held-word-2 Inv-loop μ-loop
+mul-held-word-2 c = search needs
+
+array-read-held-word : tie.Need-array-read-held-word Inv-loop μ-loop
+array-read-held-word c = search needs
+
+held-word-requires : tie.Need-held-word-requires Inv-loop μ-loop
+held-word-requires c κs = search needs
+
+mul-words : tie.Need-mul-words Inv-loop μ-loop
+mul-words c = search needs
+
+array-write-words : tie.Need-array-write-words Inv-loop μ-loop
+array-write-words c = search needs
+
+add-k : tie.Need-add-k Inv-loop μ-loop
+add-k c = search needs
+
+loop-less : tie.Need-loop-less Inv-loop μ-loop
+loop-less c = search needs
+
+loop-again : tie.Need-loop-again Inv-loop μ-loop
+loop-again c =
+    let l = c .before .before .loop in
+    (omega arith, l .inv .1, gather-more _ _ _ _ _ _ _ (l .words) (l .k) (c .held-word .result) (l .inv .2) (omega arith) (c .held-word .ensures))
+
+returns : tie.Need-returns Inv-loop μ-loop
+returns c = λ l p o m.
+    let a = c .before .before .args in
+    let i = c .before .loop in
+    gather-held (a .width) (a .count) (a .start .now) (a .finish .now) l p (a .masks .now) o m (a .t) (a .e) (omega arith) (a .edge) (i .words) (i .k) (c .before .before .pre .4) (i .inv .2) (omega arith)
+
+pub held-words-spec : {M : Type 1} → statement M
+held-words-spec =
+    tie.close
+    (tie.spec
+    Inv-loop
+    μ-loop
+    add-end
+    add-need
+    cast-need
+    loop-holds
+    mul-held-word
+    mul-held-word-2
+    array-read-held-word
+    held-word-requires
+    mul-words
+    array-write-words
+    add-k
+    loop-less
+    loop-again
+    returns)
