@@ -1,23 +1,14 @@
 -- The masks' loop: one task more, stored at its four places. Assumes nothing.
-use Prim.Native.Nat.{ℕ, _+_, _*_, _≤_, _<_}
-use mathlib.Core.Path.{_≡_, refl, sym, ap, ap₂, _∙_}
+use Prim.Native.Nat.{ℕ, _+_, _*_, _<_}
+use mathlib.Core.Path.{_≡_}
 use mathlib.Core.Bool.{Bool, _&&_}
 use mathlib.Core.List.{List}
 use native.Mathlib.Omega.{arith}
-use native.Mathlib.Decide.{ℕ-discrete as decEq}
 use lib.Dec.{leb, ltb}
 use lib.ListN.{length, getD, set, length-set}
-use lib.Seq.{getD-set-same, getD-set-other}
+use Rattle.lists.proofs.Append.{stored}
 use Rattle.words.specs.Words.{bit}
 use Rattle.full.specs.Held.{Masked}
-
--- what stands at a place after a store
-stored : (Q : ℕ → Type 0) (m : List ℕ) (y v x : ℕ) → y < length m → (x ≡ y → Q v) → ((x ≡ y → ⊥) → Q (getD m x 0)) → Q (getD (set m y v) x 0)
-stored Q m y v x h f g = go (decEq x y)
-  where
-    go : Dec (x ≡ y) → Q (getD (set m y v) x 0)
-    go (yes e) = rw (e, getD-set-same m y v 0 h) (f e)
-    go (no n) = rw (getD-set-other m y x v 0 n) (g n)
 
 module _ (l r : List ℕ) where
   -- column k * 64 + 1 + j is one of task i's
@@ -38,10 +29,10 @@ module _ (l r : List ℕ) where
     where
       at : (k i j : ℕ) → k < 4 → i < n + 1 → j < 64 → bit (getD (set (set (set (set m n a) (64 + n) b) (128 + n) c) (192 + n) d) (k * 64 + i) 0) j ≡ has k i j
       at k i j p q s =
-          stored (λ v. bit v j ≡ has k i j) (set (set (set m n a) (64 + n) b) (128 + n) c) (192 + n) d (k * 64 + i) (simp length-set (omega arith)) (λ e. is 3 d (omega arith) (omega arith) (f₃ j s))
-          (λ n₃. stored (λ v. bit v j ≡ has k i j) (set (set m n a) (64 + n) b) (128 + n) c (k * 64 + i) (simp length-set (omega arith)) (λ e. is 2 c (omega arith) (omega arith) (f₂ j s))
-          (λ n₂. stored (λ v. bit v j ≡ has k i j) (set m n a) (64 + n) b (k * 64 + i) (simp length-set (omega arith)) (λ e. is 1 b (omega arith) (omega arith) (f₁ j s))
-          (λ n₁. stored (λ v. bit v j ≡ has k i j) m n a (k * 64 + i) (omega arith) (λ e. is 0 a (omega arith) (omega arith) (f₀ j s))
+          stored (λ v. bit v j ≡ has k i j) (set (set (set m n a) (64 + n) b) (128 + n) c) (192 + n) d (k * 64 + i) 0 (simp length-set (omega arith)) (λ e. is 3 d (omega arith) (omega arith) (f₃ j s))
+          (λ n₃. stored (λ v. bit v j ≡ has k i j) (set (set m n a) (64 + n) b) (128 + n) c (k * 64 + i) 0 (simp length-set (omega arith)) (λ e. is 2 c (omega arith) (omega arith) (f₂ j s))
+          (λ n₂. stored (λ v. bit v j ≡ has k i j) (set m n a) (64 + n) b (k * 64 + i) 0 (simp length-set (omega arith)) (λ e. is 1 b (omega arith) (omega arith) (f₁ j s))
+          (λ n₁. stored (λ v. bit v j ≡ has k i j) m n a (k * 64 + i) 0 (omega arith) (λ e. is 0 a (omega arith) (omega arith) (f₀ j s))
           (λ n₀. o .share k i j p (omega arith) s))))
         where
           is : (y v : ℕ) → k ≡ y → i ≡ n → bit v j ≡ has y n j → bit v j ≡ has k i j

@@ -1,24 +1,22 @@
 -- The walk from finish to finish: what is left of the openings gives the answer. Assumes nothing.
 use Prim.Native.Nat.{ℕ, suc, _+_, _-_, _≤_, _<_}
-use mathlib.Core.Path.{_≡_, refl, sym, ap, ap₂, _∙_}
+use mathlib.Core.Path.{_≡_, refl, sym, ap, _∙_}
 use mathlib.Core.Logic.{_⊎_, inl, inr}
-use mathlib.Core.Bool.{Bool, true, false, not, _&&_, _||_, true≢false}
-use mathlib.Core.Option.{Option, none, some}
-use mathlib.Core.List.{List, [], _∷_}
+use mathlib.Core.Bool.{Bool, true, false, _||_, true≢false}
+use mathlib.Core.Option.{some}
+use mathlib.Core.List.{List}
 use native.Mathlib.Omega.{arith}
 use native.Mathlib.Decide.{decLt, ℕ-discrete as decEq}
-use lib.Dec.{T, ltb, ltb→lt, lt→ltb, T-not}
+use lib.Dec.{T, ltb, ltb→lt, lt→ltb}
 use lib.ListN.{getD}
 use Rattle.lists.specs.Lists.{_∈_, some?, head?, range}
-use Rattle.lists.proofs.Bools.{and-l, and-r, and-i, or-l, or-r, or-cases, is-true, is-false, not-not}
+use Rattle.lists.proofs.Bools.{and-l, and-r, and-i, or-l, or-r, or-cases, is-true}
 use Rattle.lists.proofs.Members.{some-pass, pass-some, map-in, range-in}
-use Rattle.ways.specs.Ways.{Pair, pair, Ways, openingsIn, openingsAfter}
+use Rattle.ways.specs.Ways.{pair, Ways, openingsAfter}
 use Rattle.ways.proofs.Laws.{Lawful, Open, early, over, found, next-end, all}
 use Rattle.tasks.specs.declared.Task.{Task}
-use Rattle.tasks.specs.declared.Submission.{Submission}
 use Rattle.tasks.specs.Tasks.{finish, overlap, covers, meets, stamped, booked}
-use Rattle.tasks.proofs.Laws.{Common, overlap-common, common-overlap, covers-in, covers-out, meets-share}
-use Rattle.planners.specs.declared.Found.{Found}
+use Rattle.tasks.proofs.Laws.{overlap-common, common-overlap, covers-in, covers-out, meets-share}
 use Rattle.planners.specs.declared.Found.the-variants.{Nothing, At}
 use Rattle.planners.specs.Openings.{ways, full}
 use Rattle.planners.specs.Lent.{OnDevice, taskAt, tasksOf, asked, foundOf}

@@ -1,11 +1,11 @@
 -- What the leaves of Full promise of the columns of an instant: code-level definitions; no promise of a public call cites them. Assumes nothing.
 use Prim.Native.Nat.{ℕ, _+_, _*_, _≤_, _<_}
 use mathlib.Core.Path.{_≡_}
-use mathlib.Core.Bool.{Bool, true, false, _&&_, _||_}
+use mathlib.Core.Bool.{Bool, false, _&&_, _||_}
 use mathlib.Core.List.{List}
 use lib.Dec.{leb, ltb}
 use lib.ListN.{getD}
-use Rattle.lists.specs.Lists.{some?, range}
+use Rattle.lists.specs.Lists.{some?}
 use Rattle.tasks.specs.declared.Task.{Task}
 use Rattle.tasks.specs.Tasks.{overlap, covers}
 use Rattle.words.specs.Words.{bit, column}
@@ -19,9 +19,13 @@ pub record Masked (n : ℕ) (l r masks : List ℕ) : Type 0 where
   pub share : (k i j : ℕ) → k < 4 → i < n → j < 64
       → bit (getD masks (k * 64 + i) 0) j ≡ (leb (getD l i 0) (k * 64 + 1 + j) && ltb (k * 64 + 1 + j) (getD r i 0))
 
--- task i is there between t and `end`, and has digit j of the word whose masks begin at `base`
-abbrev pub inWord : List ℕ → List ℕ → List ℕ → ℕ → ℕ → ℕ → ℕ → ℕ → Bool
-inWord s f masks base t end j i = (ltb t (getD f i 0) && ltb (getD s i 0) end) && bit (getD masks (base + i) 0) j
+-- word i is all ones where task i is there between t and `end`, and zero where it is not
+pub record InTime (s f : List ℕ) (n t end : ℕ) (there : List ℕ) : Type 0 where
+  pub test : (i j : ℕ) → i < n → j < 64 → bit (getD there i 0) j ≡ (ltb t (getD f i 0) && ltb (getD s i 0) end)
+
+-- task i is there, and has digit j of the word whose masks begin at `base`
+abbrev pub inWord : List ℕ → List ℕ → ℕ → ℕ → ℕ → Bool
+inWord there masks base j i = bit (getD there i 0) j && bit (getD masks (base + i) 0) j
 
 -- the set columns are those past the W of the device
 abbrev pub Edge : ℕ → List ℕ → Type 0

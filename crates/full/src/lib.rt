@@ -1,14 +1,13 @@
 // Full: the first opening, found from finish to finish, each instant's columns in four words. It never steps tick by tick.
 ghost use mathlib.Core.Path.{_≡_};
-ghost use mathlib.Core.Bool.{Bool, cond, _&&_, _||_};
+ghost use mathlib.Core.Bool.{_&&_, _||_};
 ghost use mathlib.Core.List.{List};
-ghost use Prim.Native.Nat.{ℕ, _+_, _<_, _≤_};
-ghost use lib.ListN.{getD};
+ghost use Prim.Native.Nat.{ℕ, _+_, _<_, _≤_, min};
 ghost use Rattle.lists.specs.Lists.{some?, range};
 ghost use Rattle.planners.specs.Openings.{full};
 ghost use Rattle.planners.specs.Lent.{OnDevice, tasksOf, asked, foundOf};
 ghost use Rattle.words.specs.Words.{bit};
-ghost use Rattle.full.specs.Held.{Masked, Edge, Held, inWord, FirstFree, NextFinish};
+ghost use Rattle.full.specs.Held.{Masked, Edge, Held, InTime, inWord, FirstFree, NextFinish};
 use planners::Found;
 
 // The columns of each task in words: word k of task i at k * 64 + i, so that one word of all tasks lies in a row.
@@ -38,31 +37,48 @@ pub fn edge(width: u32) -> [u64; 4]
     words::marked([0u64; 4], width + 1, 257)
 }
 
-// The word where both hold, and no column otherwise: a choice and no branch.
-fn both(a: bool, b: bool, word: u64) -> u64
-    ensures { λ r. ⌜ r ≡ cond (a && b) word 0 ⌝ }
+// All ones where both hold, else zero: a choice and no branch.
+fn both(a: bool, b: bool) -> u64
+    ensures { λ r. ⌜ ((j : ℕ) → j < 64 → bit r j ≡ (a && b)) ⌝ }
 {
-    if a & b { word } else { 0 }
+    if a & b { 0xffff_ffff_ffff_ffff } else { 0 }
 }
 
-// One word of the columns that a task holds between t and `end`, with those that are set in `word`.
-fn held_word<'a>(
+// Which tasks are there between t and `end`. The times are looked at once for all four words.
+fn in_time<'a>(
     start: &'a [u32; 64],
     finish: &'a [u32; 64],
+    count: usize,
+    t: u32,
+    end: u32,
+) -> [u64; 64]
+    requires { ⌜ count ≤ 64 ⌝ }
+    ensures { λ r. ⌜ InTime (now (start .entry)) (now (finish .entry)) count t end r ⌝ }
+{
+    let mut there = [0u64; 64];
+    let mut i: usize = 0;
+    while i < count {
+        there[i] = both(t < finish[i], start[i] < end);
+        i += 1;
+    }
+    there
+}
+
+// One word of the columns of the tasks that are there, with those that are set in `word`.
+fn held_word<'a>(
+    there: &'a [u64; 64],
     masks: &'a [u64; 256],
     count: usize,
     base: usize,
-    t: u32,
-    end: u32,
     word: u64,
 ) -> u64
     requires { ⌜ (count ≤ 64) × (base ≤ 192) ⌝ }
-    ensures { λ r. ⌜ ((j : ℕ) → bit r j ≡ (bit word j || some? (inWord (now (start .entry)) (now (finish .entry)) (now (masks .entry)) base t end j) (range 0 count))) ⌝ }
+    ensures { λ r. ⌜ ((j : ℕ) → bit r j ≡ (bit word j || some? (inWord (now (there .entry)) (now (masks .entry)) base j) (range 0 count))) ⌝ }
 {
     let mut held = word;
     let mut i: usize = 0;
     while i < count {
-        held = held | both(t < finish[i], start[i] < end, masks[base + i]);
+        held = held | (there[i] & masks[base + i]);
         i += 1;
     }
     held
@@ -84,11 +100,12 @@ pub fn held_words<'a>(
     ensures { λ r. ⌜ ((l p : List ℕ) → OnDevice width count (now (start .entry)) (now (finish .entry)) l p → Masked count l p (now (masks .entry)) → Held width t e (tasksOf count (now (start .entry)) (now (finish .entry)) l p) r) ⌝ }
 {
     let end = t + e;
+    let there = in_time(start, finish, count, t, end);
     let need = ((width + 63) / 64) as usize;
     let mut words = edge;
     let mut k: usize = 0;
     while k < need {
-        words[k] = held_word(start, finish, masks, count, k * 64, t, end, words[k]);
+        words[k] = held_word(&there, masks, count, k * 64, words[k]);
         k += 1;
     }
     words
@@ -111,31 +128,26 @@ pub fn first_free(words: [u64; 4], from: u32, w: u32) -> u32
     0
 }
 
-// Of x, where it comes after t, and a number after t: the lesser.
-fn sooner(t: u32, x: u32, best: u32) -> u32
-    requires { ⌜ t < best ⌝ }
-    ensures { λ r. ⌜ (t < r) × (r ≤ best) × (t < x → r ≤ x) ⌝ }
+fn lesser(x: u32, y: u32) -> u32
+    ensures { λ r. ⌜ r ≡ min x y ⌝ }
 {
-    if t < x {
-        if x < best {
-            return x;
-        }
-    }
-    best
+    if x < y { x } else { y }
 }
 
-// The next finish after t, or a number past every finish.
+// The next finish after t, or a number past every finish. It is kept as what it lies past t + 1: a finish up to t wraps
+// to a number too large to count, so that one comparison does for two.
 pub fn next_finish<'a>(finish: &'a [u32; 64], count: usize, t: u32) -> u32
     requires { ⌜ (count ≤ 64) × (t < 4294967295) ⌝ }
     ensures { λ r. ⌜ NextFinish (now (finish .entry)) count t r ⌝ }
 {
-    let mut best: u32 = 0xffff_ffff;
+    let from = t + 1;
+    let mut best: u32 = 0xffff_ffff - from;
     let mut i: usize = 0;
     while i < count {
-        best = sooner(t, finish[i], best);
+        best = lesser(std::num::wrapping_sub_u32(finish[i], from), best);
         i += 1;
     }
-    best
+    from + best
 }
 
 // Full. Where nothing is open at t, nothing is before the next finish.

@@ -6,6 +6,7 @@ use mathlib.Core.Bool.{Bool, true, false, not, cond, _&&_, _||_, or-assoc, or-fa
 use mathlib.Core.List.{List, [], _∷_, _++_, map, append-nil, append-assoc, map-append, List·Memᴰ·head as here, List·Memᴰ·tail as there}
 use native.Mathlib.Omega.{arith}
 use native.Mathlib.Numerals.{add-one}
+use native.Mathlib.Decide.{ℕ-discrete as decEq}
 use lib.Dec.{T, ltb, leb·suc-suc, T-not}
 use borrow.Author.Tests.{lt-ltb}
 use lib.ListN.{length, take, drop, set, getD, List·getD-map, length-map, length-set, drop-of-length-le}
@@ -88,6 +89,14 @@ module _ {A : Type 0} where
 
   pub store-none : {B : Type 0} (f : A → B) (a : List B) (n : ℕ) (xs : List A) (b : B) → take n a ≡ map f xs → take n (set a n b) ≡ map f xs
   store-none f a n xs b e = take-set-le n a n b (omega arith) ∙ e
+
+-- what stands at a place after a store
+pub stored : {A : Type 0} (Q : A → Type 0) (l : List A) (i : ℕ) (v : A) (k : ℕ) (d : A) → i < length l → (k ≡ i → Q v) → ((k ≡ i → ⊥) → Q (getD l k d)) → Q (getD (set l i v) k d)
+stored Q l i v k d h f g = go (decEq k i)
+  where
+    go : Dec (k ≡ i) → Q (getD (set l i v) k d)
+    go (yes e) = rw (e, getD-set-same l i v d h) (f e)
+    go (no n) = rw (getD-set-other l i k v d n) (g n)
 
 -- a range with one number more at its end
 range-last : (a m : ℕ) → range a (suc m) ≡ range a m ++ ((a + m) ∷ [])

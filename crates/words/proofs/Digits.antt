@@ -2,7 +2,7 @@
 use mathlib.Core.Path.{_≡_, refl, sym, ap, ap₂, _∙_}
 use mathlib.Core.Bool.{Bool, true, false, not, cond, _&&_, _||_}
 use mathlib.Core.List.{[], _∷_}
-use Prim.Native.Nat.{ℕ, zero, suc, _+_, _-_, _*_, _/_, _%_, _^_, _≤_, _<_, suc-le-suc, max}
+use Prim.Native.Nat.{ℕ, zero, suc, _+_, _-_, _*_, _/_, _%_, _^_, _≤_, _<_, suc-le-suc, max, min}
 use native.Mathlib.Nat.{div-one, add-zero, add-suc, suc-add, zero-add, add-assoc, add-comm, mod-lt, mod-eq-of-lt, max-le, le-of-suc-le-suc, not-suc-le-zero, zero-lt-suc, pow-suc, mul-one}
 use native.Mathlib.Numerals.{one-add, add-one}
 use native.Mathlib.Omega.{arith}
@@ -10,7 +10,7 @@ use lib.Dec.{leb, ltb, eqb, leb·zero, leb·suc-zero, leb·suc-suc}
 use lib.Arith.{digits-mod}
 use lib.ListN.{length, length-append}
 use lib.Pow.{pow-pos, shr-shr, shl-shr, shl-exact, mod-pow-add, ones-split, ones-lt, high}
-use lib.Bits.{bitOr, or-shr, or-step, shifted-half, shifted-even}
+use lib.Bits.{bitAnd, bitOr, and-shr, or-shr, and-step, or-step, shifted-half, shifted-even}
 use lib.Count.{ones, ones-cat, trailingZeros, under}
 use Rattle.lists.specs.Lists.{keep, range}
 use Rattle.lists.proofs.Append.{keep-append, range-more}
@@ -58,6 +58,28 @@ unfolding bit
 bit-or a b k =
     ap (λ (x : ℕ). eqb (x % 2) 1) (or-shr a b k) ∙ ap (λ (x : ℕ). eqb x 1) (or-low (a / 2 ^ k) (b / 2 ^ k))
     ∙ or-two (a / 2 ^ k % 2) (b / 2 ^ k % 2) (mod-lt (a / 2 ^ k) two-pos) (mod-lt (b / 2 ^ k) two-pos)
+
+-- ---- `&`
+
+and-two : (r s : ℕ) → r < 2 → s < 2 → eqb (min r s) 1 ≡ (eqb r 1 && eqb s 1)
+and-two zero zero h l = refl
+and-two zero (suc zero) h l = refl
+and-two (suc zero) zero h l = refl
+and-two (suc zero) (suc zero) h l = refl
+and-two zero (suc (suc s)) h l = absurd (omega arith)
+and-two (suc zero) (suc (suc s)) h l = absurd (omega arith)
+and-two (suc (suc r)) s h l = absurd (omega arith)
+
+and-low : (x y : ℕ) → bitAnd x y % 2 ≡ min (x % 2) (y % 2)
+and-low x y =
+    let h : min (x % 2) (y % 2) < 2 = omega arith in
+    ap (λ (z : ℕ). z % 2) (and-step x y) ∙ digits-mod (bitAnd (x / 2) (y / 2)) h
+
+pub bit-and : (a b k : ℕ) → bit (bitAnd a b) k ≡ (bit a k && bit b k)
+unfolding bit
+bit-and a b k =
+    ap (λ (x : ℕ). eqb (x % 2) 1) (and-shr a b k) ∙ ap (λ (x : ℕ). eqb x 1) (and-low (a / 2 ^ k) (b / 2 ^ k))
+    ∙ and-two (a / 2 ^ k % 2) (b / 2 ^ k % 2) (mod-lt (a / 2 ^ k) two-pos) (mod-lt (b / 2 ^ k) two-pos)
 
 -- ---- `<<`, where nothing is shifted out: the digits below are clear, and the rest have moved up
 

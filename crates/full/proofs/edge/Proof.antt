@@ -1,6 +1,6 @@
 -- `full::edge` meets its contract: no column, and those from the width on. Assumes nothing.
 use Prim.Native.Nat.{_+_}
-use mathlib.Core.Path.{_≡_, ap, _∙_}
+use mathlib.Core.Path.{ap, _∙_}
 use mathlib.Core.Bool.{_&&_, _||_}
 use lib.Dec.{leb, ltb}
 use Rattle.words.proofs.Columns.{column-none}

@@ -1,6 +1,6 @@
 -- `full::first_free` meets its contract: from one run of clear columns to the next. Assumes nothing.
 use Prim.Native.Nat.{_-_}
-use mathlib.Core.Path.{_≡_, refl}
+use mathlib.Core.Path.{refl}
 use native.Mathlib.Omega.{arith}
 use Rattle.full.proofs.Free.{Sought, seek, seek-found, seek-less, seek-on, seek-end}
 use borrow.Author.Needs.{needs}

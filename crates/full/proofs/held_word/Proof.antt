@@ -12,39 +12,29 @@ use Rattle.full.proofs.held_word.Statement.{statement}
 use Rattle.full.proofs.held_word.Tie as tie
 
 abbrev Inv-loop : tie.InvT-loop
-Inv-loop start finish masks count base t end word held₀ i₀ held i =
-    (i ≤ count) × ((j : ℕ) → bit held j ≡ (bit word j || some? (inWord start finish masks base t end j) (range 0 i)))
+Inv-loop there masks count base word held₀ i₀ held i = (i ≤ count) × ((j : ℕ) → bit held j ≡ (bit word j || some? (inWord there masks base j) (range 0 i)))
 
 abbrev μ-loop : tie.MeasureT-loop
-μ-loop start finish masks count base t end word held₀ i₀ held i = count - i
+μ-loop there masks count base word held₀ i₀ held i = count - i
 
 loop-holds : tie.Need-loop-holds Inv-loop μ-loop
 unfolding some? range
 loop-holds c = (omega arith, λ j. sym (or-false (bit (c .args .word) j)))
 
-mul-both : tie.Need-mul-both Inv-loop μ-loop
-mul-both c = search needs
+mul-held : tie.Need-mul-held Inv-loop μ-loop
+mul-held c = search needs
 
-element-copy-out-both : tie.Need-element-copy-out-both Inv-loop μ-loop
-element-copy-out-both c = search needs
+element-copy-out-held : tie.Need-element-copy-out-held Inv-loop μ-loop
+element-copy-out-held c = search needs
 
-mul-both-2 : tie.Need-mul-both-2 Inv-loop μ-loop
-mul-both-2 c = search needs
+add-held : tie.Need-add-held Inv-loop μ-loop
+add-held c = search needs
 
-element-copy-out-both-2 : tie.Need-element-copy-out-both-2 Inv-loop μ-loop
-element-copy-out-both-2 c = search needs
+mul-held-2 : tie.Need-mul-held-2 Inv-loop μ-loop
+mul-held-2 c = search needs
 
-add-both : tie.Need-add-both Inv-loop μ-loop
-add-both c = search needs
-
-mul-both-3 : tie.Need-mul-both-3 Inv-loop μ-loop
-mul-both-3 c = search needs
-
-element-copy-out-both-3 : tie.Need-element-copy-out-both-3 Inv-loop μ-loop
-element-copy-out-both-3 c = search needs
-
-both-requires : tie.Need-both-requires Inv-loop μ-loop
-both-requires c κs = search needs
+element-copy-out-held-2 : tie.Need-element-copy-out-held-2 Inv-loop μ-loop
+element-copy-out-held-2 c = search needs
 
 add-i : tie.Need-add-i Inv-loop μ-loop
 add-i c = search needs
@@ -54,9 +44,9 @@ loop-less c = search needs
 
 loop-again : tie.Need-loop-again Inv-loop μ-loop
 loop-again c =
-    let l = c .before .before .before .before .before .loop in
-    let a = c .before .before .before .before .before .before .args in
-    (omega arith, word-more (a .start .now) (a .finish .now) (a .masks .now) (a .t) (a .end) (a .base) (a .word) (l .held) (l .i) (c .both .result) (l .inv .1) (c .both .ensures))
+    let l = c .before .before .before .loop in
+    let a = c .before .before .before .before .args in
+    (omega arith, word-more (a .there .now) (a .masks .now) (a .base) (a .word) (l .held) (l .i) (l .inv .1))
 
 returns : tie.Need-returns Inv-loop μ-loop
 returns c = λ j.
@@ -71,14 +61,11 @@ held-word-spec =
     Inv-loop
     μ-loop
     loop-holds
-    mul-both
-    element-copy-out-both
-    mul-both-2
-    element-copy-out-both-2
-    add-both
-    mul-both-3
-    element-copy-out-both-3
-    both-requires
+    mul-held
+    element-copy-out-held
+    add-held
+    mul-held-2
+    element-copy-out-held-2
     add-i
     loop-less
     loop-again

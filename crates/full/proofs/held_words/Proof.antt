@@ -1,5 +1,5 @@
 -- `full::held_words` meets its contract: the words passed have the columns of every task, and the others lie past the width. Assumes nothing.
-use Prim.Native.Nat.{ℕ, _+_, _-_, _*_, _≤_}
+use Prim.Native.Nat.{_-_, _≤_}
 use mathlib.Core.Path.{_≡_}
 use native.Mathlib.Omega.{arith}
 use lib.ListN.{length}
@@ -9,13 +9,16 @@ use Rattle.full.proofs.held_words.Statement.{statement}
 use Rattle.full.proofs.held_words.Tie as tie
 
 abbrev Inv-loop : tie.InvT-loop
-Inv-loop start finish masks count width t e end need words₀ k₀ words k = (k ≤ need) × (length words₀ ≡ 4) × Gathered start finish masks t end words₀ count words k
+Inv-loop start finish masks count width t e end there need words₀ k₀ words k = (k ≤ need) × Gathered there masks words₀ count words k
 
 abbrev μ-loop : tie.MeasureT-loop
-μ-loop start finish masks count width t e end need words₀ k₀ words k = need - k
+μ-loop start finish masks count width t e end there need words₀ k₀ words k = need - k
 
 add-end : tie.Need-add-end Inv-loop μ-loop
 add-end c = search needs
+
+in-time-requires : tie.Need-in-time-requires Inv-loop μ-loop
+in-time-requires c κs = search needs
 
 add-need : tie.Need-add-need Inv-loop μ-loop
 add-need c = search needs
@@ -24,7 +27,7 @@ cast-need : tie.Need-cast-need Inv-loop μ-loop
 cast-need c = search needs
 
 loop-holds : tie.Need-loop-holds Inv-loop μ-loop
-loop-holds c = let z : length (c .args .edge) ≡ 4 = search needs in (omega arith, z, gather-none _ _ _ _ _ _ _ z)
+loop-holds c = let z : length (c .before .args .edge) ≡ 4 = search needs in (omega arith, gather-none _ _ _ _ z)
 
 mul-held-word : tie.Need-mul-held-word Inv-loop μ-loop
 mul-held-word c = search needs
@@ -52,14 +55,14 @@ loop-less c = search needs
 
 loop-again : tie.Need-loop-again Inv-loop μ-loop
 loop-again c =
-    let l = c .before .before .loop in
-    (omega arith, l .inv .1, gather-more _ _ _ _ _ _ _ (l .words) (l .k) (c .held-word .result) (l .inv .2) (omega arith) (c .held-word .ensures))
+    let l = c .before .before .before .loop in
+    (omega arith, gather-more _ _ _ _ (l .words) (l .k) (c .held-word .result) (l .inv .1) (omega arith) (c .held-word .ensures))
 
 returns : tie.Need-returns Inv-loop μ-loop
 returns c = λ l p o m.
-    let a = c .before .before .args in
-    let i = c .before .loop in
-    gather-held (a .width) (a .count) (a .start .now) (a .finish .now) l p (a .masks .now) o m (a .t) (a .e) (omega arith) (a .edge) (i .words) (i .k) (c .before .before .pre .4) (i .inv .2) (omega arith)
+    let i = c .before .before in
+    let a = i .before .args in
+    gather-held (a .width) (a .count) (a .start .now) (a .finish .now) l p (i .in-time .result) (a .masks .now) (a .t) (a .e) (omega arith) o m (i .in-time .ensures) (a .edge) (c .before .loop .words) (c .before .loop .k) (i .before .pre .4) (c .before .loop .inv .1) (omega arith)
 
 pub held-words-spec : {M : Type 1} → statement M
 held-words-spec =
@@ -68,6 +71,7 @@ held-words-spec =
     Inv-loop
     μ-loop
     add-end
+    in-time-requires
     add-need
     cast-need
     loop-holds

@@ -1,5 +1,5 @@
 -- `full::next_finish` meets its contract: none of the finishes passed lies between. Assumes nothing.
-use Prim.Native.Nat.{ℕ, _+_, _-_, _≤_, _<_}
+use Prim.Native.Nat.{ℕ, _+_, _-_, _%_, _≤_, _<_, min}
 use mathlib.Core.Path.{_≡_}
 use mathlib.Core.List.{List}
 use native.Mathlib.Omega.{arith}
@@ -10,30 +10,41 @@ use borrow.Author.Needs.{needs}
 use Rattle.full.proofs.next_finish.Statement.{statement}
 use Rattle.full.proofs.next_finish.Tie as tie
 
-one-more : (f : List ℕ) (n t best r : ℕ) → NextFinish f n t best → t < r → r ≤ best → (t < getD f n 0 → r ≤ getD f n 0) → NextFinish f (n + 1) t r
-one-more f n t best r o p q h = record { after = p; least = λ i l. at i l (decEq i n) }
+-- `past` is what the finish lies past t + 1, where it comes after t
+one-more : (f : List ℕ) (n t best past r : ℕ) → NextFinish f n t (t + 1 + best) → past < 4294967296 → (past + (t + 1)) % 4294967296 ≡ getD f n 0 → r ≡ min past best
+    → NextFinish f (n + 1) t (t + 1 + r)
+one-more f n t best past r o p q h = record { after = omega arith; least = λ i l k. at i l k (decEq i n) }
   where
-    at : (i : ℕ) → i < n + 1 → Dec (i ≡ n) → t < getD f i 0 → r ≤ getD f i 0
-    at i l (yes e) k = rw e (h (rw e at k))
-    at i l (no e) k = omega (arith, o .least i (omega arith) k)
+    at : (i : ℕ) → i < n + 1 → t < getD f i 0 → Dec (i ≡ n) → t + 1 + r ≤ getD f i 0
+    at i l k (yes e) = let z : t < getD f n 0 = rw e at k in rw e (omega arith)
+    at i l k (no e) = omega (arith, o .least i (omega arith) k)
 
 abbrev Inv-loop : tie.InvT-loop
-Inv-loop finish count t best₀ i₀ best i = (i ≤ count) × NextFinish finish i t best
+Inv-loop finish count t from best₀ i₀ best i = (i ≤ count) × (from + best ≤ 4294967295) × NextFinish finish i t (from + best)
 
 abbrev μ-loop : tie.MeasureT-loop
-μ-loop finish count t best₀ i₀ best i = count - i
+μ-loop finish count t from best₀ i₀ best i = count - i
+
+add-from : tie.Need-add-from Inv-loop μ-loop
+add-from c = search needs
+
+sub-best : tie.Need-sub-best Inv-loop μ-loop
+sub-best c = search needs
 
 loop-holds : tie.Need-loop-holds Inv-loop μ-loop
-loop-holds c = (omega arith, record { after = omega arith; least = λ i h. absurd (omega arith) })
+loop-holds c = (omega arith, omega arith, record { after = omega arith; least = λ i h. absurd (omega arith) })
 
-mul-sooner : tie.Need-mul-sooner Inv-loop μ-loop
-mul-sooner c = search needs
+mul-wrapping-sub-u32 : tie.Need-mul-wrapping-sub-u32 Inv-loop μ-loop
+mul-wrapping-sub-u32 c = search needs
 
-element-copy-out-sooner : tie.Need-element-copy-out-sooner Inv-loop μ-loop
-element-copy-out-sooner c = search needs
+element-copy-out-wrapping-sub-u32 : tie.Need-element-copy-out-wrapping-sub-u32 Inv-loop μ-loop
+element-copy-out-wrapping-sub-u32 c = search needs
 
-sooner-requires : tie.Need-sooner-requires Inv-loop μ-loop
-sooner-requires c κs = search needs
+wrapping-sub-u32-requires : tie.Need-wrapping-sub-u32-requires Inv-loop μ-loop
+wrapping-sub-u32-requires c κs = search needs
+
+lesser-requires : tie.Need-lesser-requires Inv-loop μ-loop
+lesser-requires c κs = search needs
 
 add-i : tie.Need-add-i Inv-loop μ-loop
 add-i c = search needs
@@ -43,14 +54,17 @@ loop-less c = search needs
 
 loop-again : tie.Need-loop-again Inv-loop μ-loop
 loop-again c =
-    let l = c .before .before .before .loop in
-    (omega arith, one-more _ (l .i) _ (l .best) (c .sooner .result) (l .inv .1) (c .sooner .ensures .0) (c .sooner .ensures .1) (c .sooner .ensures .2))
+    let l = c .before .before .before .before .loop in
+    (omega arith, omega arith, one-more _ (l .i) _ (l .best) (c .before .wrapping-sub-u32 .result) (c .lesser .result) (l .inv .2) (omega arith) (c .before .wrapping-sub-u32 .ensures) (c .lesser .ensures))
+
+add-result : tie.Need-add-result Inv-loop μ-loop
+add-result c = search needs
 
 returns : tie.Need-returns Inv-loop μ-loop
 returns c =
     let l = c .before .loop in
     let e : l .i ≡ c .before .before .args .count = omega (arith, l .inv .0) in
-    rw (← e) (l .inv .1)
+    rw (← e) (l .inv .2)
 
 pub next-finish-spec : {M : Type 1} → statement M
 next-finish-spec =
@@ -58,11 +72,15 @@ next-finish-spec =
     (tie.spec
     Inv-loop
     μ-loop
+    add-from
+    sub-best
     loop-holds
-    mul-sooner
-    element-copy-out-sooner
-    sooner-requires
+    mul-wrapping-sub-u32
+    element-copy-out-wrapping-sub-u32
+    wrapping-sub-u32-requires
+    lesser-requires
     add-i
     loop-less
     loop-again
+    add-result
     returns)

@@ -1,5 +1,5 @@
 -- `words::next_clear` meets its contract: clear is set, the other way round. Assumes nothing.
-use mathlib.Core.Path.{_≡_, sym, _∙_}
+use mathlib.Core.Path.{sym, _∙_}
 use native.Mathlib.Omega.{arith}
 use borrow.Author.Needs.{needs}
 use Rattle.words.proofs.next_clear.Statement.{statement}

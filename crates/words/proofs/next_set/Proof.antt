@@ -1,9 +1,9 @@
 -- `words::next_set` meets its contract: the columns passed are clear. Assumes nothing.
 use Prim.Native.Nat.{ℕ, _+_, _-_, _*_, _<_, _≤_}
-use mathlib.Core.Path.{_≡_, refl, sym, ap, _∙_}
+use mathlib.Core.Path.{_≡_, ap, _∙_}
 use mathlib.Core.Bool.{false}
 use native.Mathlib.Omega.{arith}
-use Rattle.words.specs.Words.{column, Least}
+use Rattle.words.specs.Words.{column}
 use Rattle.words.proofs.Columns.{passed, column-at}
 use borrow.Author.Needs.{needs}
 use Rattle.words.proofs.next_set.Statement.{statement}

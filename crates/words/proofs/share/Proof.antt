@@ -1,5 +1,5 @@
 -- `words::share` meets its contract: the range, clipped to the word. Assumes nothing.
-use mathlib.Core.Path.{_≡_, ap₂, _∙_}
+use mathlib.Core.Path.{ap₂, _∙_}
 use mathlib.Core.Bool.{_&&_}
 use Rattle.words.proofs.Columns.{clipped, clipped-end}
 use borrow.Author.Needs.{needs}
