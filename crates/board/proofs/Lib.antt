@@ -2,3 +2,4 @@ pub mod Refusals
 pub mod Untested
 pub mod Kept
 pub mod Submit
+pub mod Placed

@@ -3,3 +3,4 @@ pub mod Planners
 pub mod Lent
 pub mod Walk
 pub mod Bare
+pub mod Compare
