@@ -3,7 +3,7 @@ ghost use mathlib.Core.Path.{_≡_};
 ghost use mathlib.Core.Bool.{cond, _&&_, _||_};
 ghost use Prim.Native.Nat.{ℕ, suc, _+_, _-_, _*_, _≤_, _<_};
 ghost use lib.Dec.{leb, ltb, eqb};
-ghost use lib.ListN.{getD};
+ghost use lib.ListN.{length, getD};
 ghost use Rattle.lists.specs.Lists.{some?};
 ghost use Rattle.planners.specs.Planners.{free, stuffing};
 ghost use Rattle.planners.specs.Lent.{foundOf, tasksOf, OnDevice, asked};
@@ -21,19 +21,17 @@ fn wide(x: u16) -> u32
 }
 
 // The columns from `from` up to, not including, `to` held: each says where the holder's columns end, so that a walk can jump.
-fn hold(row: [u16; 257], from: u32, to: u32) -> [u16; 257]
-    requires { ⌜ to ≤ 257 ⌝ }
-    ensures { λ r. ⌜ HeldTo row from to r to ⌝ }
+fn hold(row: &mut [u16; 257], from: u32, to: u32)
+    requires { ⌜ (to ≤ 257) × (length (now row) ≡ 257) ⌝ }
+    ensures { λ _. ⌜ HeldTo (now (row .entry)) from to (now (row .exit)) to ⌝ }
 {
     let past = to as u16;
-    let mut next = row;
     let mut c = from;
     while c < to {
         let at = c as usize;
-        next[at] = past;
+        row[at] = past;
         c += 1;
     }
-    next
 }
 
 // The end of a task's columns where it holds them, else their begin: then nothing is held.
@@ -61,8 +59,7 @@ fn held_row<'a>(
     while i < count {
         let from = left[i];
         let to = reach((start[i] <= t) & (t < finish[i]), from, past[i]);
-        let next = hold(row, from, to);
-        row = next;
+        hold(&mut row, from, to);
         i += 1;
     }
     row

@@ -48,11 +48,11 @@ reach-requires c κs = search needs
 
 hold-requires : tie.Need-hold-requires Inv-loop μ-loop
 hold-requires c κs =
-    let l = c .before .before .before .before .before .before in
+    let l = c .before .before .before .before .before .before .before in
     let o = l .before .pre in
     let a = l .before .args in
     let i = l .loop .i in
-    reach-most (leb (getD (a .start .now) i 0) (a .t) && ltb (a .t) (getD (a .finish .now) i 0)) (c .reach .ensures) (o .columns (l .loop .i) (omega arith)) (omega (arith, o .past (l .loop .i) (omega arith), o .wide))
+    (reach-most (leb (getD (a .start .now) i 0) (a .t) && ltb (a .t) (getD (a .finish .now) i 0)) (c .before .reach .ensures) (o .columns (l .loop .i) (omega arith)) (omega (arith, o .past (l .loop .i) (omega arith), o .wide)), l .loop .inv .size)
 
 add-i : tie.Need-add-i Inv-loop μ-loop
 add-i c = search needs
@@ -62,8 +62,8 @@ loop-less c = search needs
 
 loop-again : tie.Need-loop-again Inv-loop μ-loop
 loop-again c =
-    let l = c .before .before .before .before .before .before .before in
-    fill-one (l .loop .inv) (l .before .pre) (omega arith) (c .before .reach .ensures) (c .hold .ensures)
+    let l = c .before .before .before .before .before .before .before .before in
+    fill-one (l .loop .inv) (l .before .pre) (omega arith) (c .before .before .reach .ensures) (c .hold .ensures)
 
 returns : tie.Need-returns Inv-loop μ-loop
 returns c =

@@ -1,33 +1,31 @@
 -- `stuffing::hold` meets its contract: the columns passed say `to`, the others what they said. Assumes nothing.
 use Prim.Native.Nat.{_-_}
-use mathlib.Core.Path.{_≡_}
 use native.Mathlib.Omega.{arith}
-use lib.ListN.{length}
 use Rattle.stuffing.proofs.Rows.{Holding, hold-none, hold-one, hold-all}
 use borrow.Author.Needs.{needs}
 use Rattle.stuffing.proofs.hold.Statement.{statement}
 use Rattle.stuffing.proofs.hold.Tie as tie
 
 abbrev Inv-loop : tie.InvT-loop
-Inv-loop from to past next₀ c₀ next c = Holding next₀ from to next c
+Inv-loop row₀ from to past c₀ row c = Holding row₀ from to row c
 
 abbrev μ-loop : tie.MeasureT-loop
-μ-loop from to past next₀ c₀ next c = to - c
+μ-loop row₀ from to past c₀ row c = to - c
 
 cast-past : tie.Need-cast-past Inv-loop μ-loop
 cast-past c = search needs
 
 loop-holds : tie.Need-loop-holds Inv-loop μ-loop
-loop-holds c = let z : length (c .args .row) ≡ 257 = c .good .0 .1 .0 .1 in hold-none _ _ _ (omega arith)
+loop-holds c = hold-none _ _ _ (omega (arith, c .pre .1, c .pre .0))
 
 cast-at : tie.Need-cast-at Inv-loop μ-loop
 cast-at c = search needs
 
-mul-next : tie.Need-mul-next Inv-loop μ-loop
-mul-next c = search needs
+mul-row : tie.Need-mul-row Inv-loop μ-loop
+mul-row c = search needs
 
-array-write-next : tie.Need-array-write-next Inv-loop μ-loop
-array-write-next c = search needs
+element-write-row : tie.Need-element-write-row Inv-loop μ-loop
+element-write-row c = search needs
 
 add-c : tie.Need-add-c Inv-loop μ-loop
 add-c c = search needs
@@ -50,8 +48,8 @@ hold-spec =
     cast-past
     loop-holds
     cast-at
-    mul-next
-    array-write-next
+    mul-row
+    element-write-row
     add-c
     loop-less
     loop-again

@@ -1,0 +1,18 @@
+#!/bin/bash
+# bench.sh: our planners beside a plain Rust program of the same methods (tests/bench/baseline.rs), as ratios of time.
+# One command, about two minutes. Both draw the same sessions; the checksums of all answers must agree.
+# On x86-64 ours is target/bin/bench, as `rt check bench` built it; elsewhere ../shared/tools/native-build.sh compiles it.
+set -euo pipefail
+root=$(cd "$(dirname "$0")/.." && pwd -P)
+work=$(mktemp -d)
+trap 'rm -rf "$work"' EXIT
+rustc -C opt-level=3 "$root/tests/bench/baseline.rs" -o "$work/rust"
+if [ "$(uname -m)" = x86_64 ]; then
+    (cd "$root" && rt check bench) >"$work/log" 2>&1 || { tail -5 "$work/log" >&2; exit 1; }
+    cp "$root/target/bin/bench" "$work/ours"
+else
+    build=${NATIVE_BUILD:-$root/../shared/tools/native-build.sh}
+    [ -x "$build" ] || { echo "bench.sh: $build is missing, and the kit's own programs are for x86-64" >&2; exit 2; }
+    "$build" "$root" bench "$work/ours"
+fi
+exec python3 "$root/tests/bench/table.py" "$work/ours" "$work/rust"
