@@ -104,7 +104,7 @@ fn mixed(sum: u64, answer: Answer) -> u64 {
     }
 }
 
-// A session: the clock moved on, a task submitted.
+// A session: the clock moved on (without the test of refusal 1, as in the run of a recording), a task submitted.
 fn session(planner: u8, l: Load, rounds: u32) -> u64 {
     let created = Board::new(l.columns, 64);
     let mut board = created.board;
@@ -117,7 +117,7 @@ fn session(planner: u8, l: Load, rounds: u32) -> u64 {
         seed = s[4];
         clock = later(clock, pick(s[0], 0, l.step_more));
         round += 1;
-        let clocked = board.clock(clock);
+        let clocked = board.clock_untested(clock);
         let submitted = clocked.board.submit(planner, asked(s, l, clock, round));
         let answer = submitted.answer;
         sum = mixed(sum, answer);
