@@ -1,5 +1,6 @@
 pub mod Fields
 pub mod Found
 pub mod Writing
+pub mod Told
 pub mod RoundTrip
 pub mod Calls

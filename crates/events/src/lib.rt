@@ -3,7 +3,7 @@ ghost use mathlib.Core.Path.{_≡_};
 ghost use Prim.Native.Nat.{_+_, _*_, _<_, _≤_};
 ghost use lib.ListN.{length, drop, set};
 ghost use lib.Seq.{sets};
-ghost use Rattle.events.specs.Records.{bytesOf, field, newBoardIn, submitIn, clockIn, withdrawIn, wholeOr15, readFrom, written, writtenBuffer};
+ghost use Rattle.events.specs.Records.{bytesOf, field, newBoardIn, submitIn, clockIn, withdrawIn, wholeOr15, readFrom, written, writtenBuffer, toldRead, toldWritten};
 use tasks::Submission;
 
 // "an event's fields have the record's widths"
@@ -110,6 +110,7 @@ fn read_withdraw(body: &[u8]) -> Reading
 // THE READER, from a place of a longer buffer on: nothing is copied, and a place past the end is the end.
 pub fn read_at(s: &[u8], at: usize) -> Reading
     ensures { λ r. ⌜ r ≡ readFrom (drop at (now (s .entry))) ⌝ }
+    ensures { λ r. ⌜ toldRead r ≡ toldRead (readFrom (drop at (now (s .entry)))) ⌝ }
 {
     if s.len() <= at {
         return Reading::End;
@@ -135,6 +136,7 @@ pub fn read_at(s: &[u8], at: usize) -> Reading
 // THE READER: the event whose record stands at the front, and the bytes it took.
 pub fn read(s: &[u8]) -> Reading
     ensures { λ r. ⌜ r ≡ readFrom (now (s .entry)) ⌝ }
+    ensures { λ r. ⌜ toldRead r ≡ toldRead (readFrom (now (s .entry))) ⌝ }
 {
     read_at(s, 0)
 }
@@ -224,6 +226,7 @@ fn write_withdraw(buffer: &mut [u8], id: u32) -> Written
 pub fn write(buffer: &mut [u8], v: Event) -> Written
     ensures { λ r. ⌜ r ≡ written v (length (now (buffer .entry))) ⌝ }
     ensures { λ _. ⌜ now (buffer .exit) ≡ writtenBuffer v (now (buffer .entry)) ⌝ }
+    ensures { λ r. ⌜ toldWritten r ≡ toldWritten (written v (length (now (buffer .entry)))) ⌝ }
 {
     match v {
         Event::NewBoard { columns, rows } => write_new_board(buffer, columns, rows),

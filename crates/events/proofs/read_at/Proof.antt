@@ -1,13 +1,14 @@
 -- `events::read_at` meets its contract: the end, a kind byte with its body, or 16. Assumes nothing.
 use mathlib.Core.Path.{sym, _∙_}
 use lib.ListN.{getD}
+use Rattle.events.proofs.Told.{read-told}
 use Rattle.events.proofs.Found.{NoKind, new-board, submit, clock, withdraw, unknown, past, front, lent}
 use borrow.Author.Needs.{needs}
 use Rattle.events.proofs.read_at.Statement.{statement}
 use Rattle.events.proofs.read_at.Tie as tie
 
 returns : tie.Need-returns
-returns c = sym (past _ _ (c .if1 .taken))
+returns c = read-told (sym (past _ _ (c .if1 .taken)))
 
 shared-slice-read-kind : tie.Need-shared-slice-read-kind
 shared-slice-read-kind c = search needs
@@ -31,7 +32,7 @@ returns-2 : tie.Need-returns-2
 returns-2 c =
     let here = c .before .before .before .before in
     let args = here .before .before .args in
-    c .read-new-board .ensures ∙ lent (args .s .now) (args .at) (here .if1 .left) new-board (c .before .if2 .taken)
+    read-told (c .read-new-board .ensures ∙ lent (args .s .now) (args .at) (here .if1 .left) new-board (c .before .if2 .taken))
 
 read-submit-requires : tie.Need-read-submit-requires
 read-submit-requires c κs = search needs
@@ -40,7 +41,7 @@ returns-3 : tie.Need-returns-3
 returns-3 c =
     let here = c .before .before .before .before .before in
     let args = here .before .before .args in
-    c .read-submit .ensures ∙ lent (args .s .now) (args .at) (here .if1 .left) submit (c .before .if3 .taken)
+    read-told (c .read-submit .ensures ∙ lent (args .s .now) (args .at) (here .if1 .left) submit (c .before .if3 .taken))
 
 read-clock-requires : tie.Need-read-clock-requires
 read-clock-requires c κs = search needs
@@ -49,7 +50,7 @@ returns-4 : tie.Need-returns-4
 returns-4 c =
     let here = c .before .before .before .before .before .before in
     let args = here .before .before .args in
-    c .read-clock .ensures ∙ lent (args .s .now) (args .at) (here .if1 .left) clock (c .before .if4 .taken)
+    read-told (c .read-clock .ensures ∙ lent (args .s .now) (args .at) (here .if1 .left) clock (c .before .if4 .taken))
 
 read-withdraw-requires : tie.Need-read-withdraw-requires
 read-withdraw-requires c κs = search needs
@@ -58,7 +59,7 @@ returns-5 : tie.Need-returns-5
 returns-5 c =
     let here = c .before .before .before .before .before .before .before in
     let args = here .before .before .args in
-    c .read-withdraw .ensures ∙ lent (args .s .now) (args .at) (here .if1 .left) withdraw (c .before .if5 .taken)
+    read-told (c .read-withdraw .ensures ∙ lent (args .s .now) (args .at) (here .if1 .left) withdraw (c .before .if5 .taken))
 
 returns-6 : tie.Need-returns-6
 returns-6 c =
@@ -71,7 +72,7 @@ returns-6 c =
       not-3 = c .before .if4 .left;
       not-4 = c .if5 .left;
     } in
-    sym (rw (front (args .s .now) (args .at) (here .if1 .left)) (unknown byte no-kind _))
+    read-told (sym (rw (front (args .s .now) (args .at) (here .if1 .left)) (unknown byte no-kind _)))
 
 pub read-at-spec : {M : Type 1} → statement M
 read-at-spec =

@@ -1,4 +1,5 @@
 -- `events::write` meets its contract: each kind of event by its own writer. Assumes nothing.
+use Rattle.events.proofs.Told.{written-told}
 use borrow.Author.Needs.{needs}
 use Rattle.events.proofs.write.Statement.{statement}
 use Rattle.events.proofs.write.Tie as tie
@@ -33,7 +34,7 @@ same-length c = search needs
 returns : tie.Need-returns
 returns c =
     let q = c .before .before .before .before .before .v .given .1 in
-    (rw q (c .before .before .write-new-board .ensures .0), rw q (c .before .before .write-new-board .ensures .1))
+    (rw q (c .before .before .write-new-board .ensures .0), (rw q (c .before .before .write-new-board .ensures .1), rw q (written-told (c .before .before .write-new-board .ensures .0))))
 
 same-length-2 : tie.Need-same-length-2
 same-length-2 c = search needs
@@ -41,7 +42,7 @@ same-length-2 c = search needs
 returns-2 : tie.Need-returns-2
 returns-2 c =
     let q = c .before .before .before .before .before .v2 .given .1 in
-    (rw q (c .before .before .write-submit .ensures .0), rw q (c .before .before .write-submit .ensures .1))
+    (rw q (c .before .before .write-submit .ensures .0), (rw q (c .before .before .write-submit .ensures .1), rw q (written-told (c .before .before .write-submit .ensures .0))))
 
 same-length-3 : tie.Need-same-length-3
 same-length-3 c = search needs
@@ -49,7 +50,7 @@ same-length-3 c = search needs
 returns-3 : tie.Need-returns-3
 returns-3 c =
     let q = c .before .before .before .before .before .v3 .given .1 in
-    (rw q (c .before .before .write-clock .ensures .0), rw q (c .before .before .write-clock .ensures .1))
+    (rw q (c .before .before .write-clock .ensures .0), (rw q (c .before .before .write-clock .ensures .1), rw q (written-told (c .before .before .write-clock .ensures .0))))
 
 same-length-4 : tie.Need-same-length-4
 same-length-4 c = search needs
@@ -57,7 +58,7 @@ same-length-4 c = search needs
 returns-4 : tie.Need-returns-4
 returns-4 c =
     let q = c .before .before .before .before .before .v4 .given .1 in
-    (rw q (c .before .before .write-withdraw .ensures .0), rw q (c .before .before .write-withdraw .ensures .1))
+    (rw q (c .before .before .write-withdraw .ensures .0), (rw q (c .before .before .write-withdraw .ensures .1), rw q (written-told (c .before .before .write-withdraw .ensures .0))))
 
 pub write-spec : {M : Type 1} → statement M
 write-spec =
