@@ -16,6 +16,7 @@ pub record Test : Type 0 where
   pub number : ℕ
   pub holds : Bool
 
+-- a row of "Answer numbers": the number, "given exactly when"
 abbrev pub _when_ : ℕ → Bool → Test
 _when_ n t = record { number = n; holds = t }
 
@@ -49,10 +50,11 @@ badTime a = 6 when not (timeFits (a .e) (a .d))
 abbrev pub tooLate : Board → Submission → Test
 tooLate b a = 8 when ltb (a .d) (b .now + a .e)
 
--- "11 instant before now", "12 instant over 2,000,000,000"
+-- "11 instant before now"
 abbrev pub passed : Board → ℕ → Test
 passed b i = 11 when ltb i (b .now)
 
+-- "12 instant over 2,000,000,000"
 abbrev pub beyond : ℕ → Test
 beyond i = 12 when ltb lastInstant i
 

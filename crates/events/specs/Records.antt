@@ -46,10 +46,11 @@ bodyOf (Withdraw n) = bytesOf 4 n
 unfoldable pub recordOf : Event → List ℕ
 recordOf v = kindOf v ∷ bodyOf v
 
--- the events that a body of each kind is
+-- "1 new board: W 2, H 2"
 abbrev pub newBoardIn : List ℕ → Event
 newBoardIn body = NewBoard (field 0 2 body) (field 2 2 body)
 
+-- "2 submit: planner 1, id 4, w 2, h 2, e 4, d 4"
 abbrev pub submitIn : List ℕ → Event
 submitIn body =
     Submit (field 0 1 body) (record {
@@ -60,9 +61,11 @@ submitIn body =
       h = field 7 2 body;
     })
 
+-- "3 clock: instant 4"
 abbrev pub clockIn : List ℕ → Event
 clockIn body = Clock (field 0 4 body)
 
+-- "4 withdraw: id 4"
 abbrev pub withdrawIn : List ℕ → Event
 withdrawIn body = Withdraw (field 0 4 body)
 

@@ -11,7 +11,7 @@ ghost use Rattle.full.specs.Held.{Masked, Edge, Held, InTime, inWord, Fi
 use planners::Found;
 
 // The columns of each task in words: word k of task i at k * 64 + i, so that one word of all tasks lies in a row.
-pub fn masks<'a>(left: &'a [u32; 64], past: &'a [u32; 64], count: usize) -> [u64; 256]
+fn masks<'a>(left: &'a [u32; 64], past: &'a [u32; 64], count: usize) -> [u64; 256]
     requires { ⌜ count ≤ 64 ⌝ }
     ensures { λ r. ⌜ Masked count (now (left .entry)) (now (past .entry)) r ⌝ }
 {
@@ -30,7 +30,7 @@ pub fn masks<'a>(left: &'a [u32; 64], past: &'a [u32; 64], count: usize) -> [u64
 }
 
 // The columns past the device's width.
-pub fn edge(width: u32) -> [u64; 4]
+fn edge(width: u32) -> [u64; 4]
     requires { ⌜ width ≤ 256 ⌝ }
     ensures { λ r. ⌜ Edge width r ⌝ }
 {
@@ -86,7 +86,7 @@ fn held_word<'a>(
 
 // The columns that a task holds at one of the e ticks from t on, and those past the width. Only the words that the width
 // needs are looked at.
-pub fn held_words<'a>(
+fn held_words<'a>(
     start: &'a [u32; 64],
     finish: &'a [u32; 64],
     masks: &'a [u64; 256],
@@ -112,7 +112,7 @@ pub fn held_words<'a>(
 }
 
 // The least column after `from` that begins w clear columns, or 0.
-pub fn first_free(words: [u64; 4], from: u32, w: u32) -> u32
+fn first_free(words: [u64; 4], from: u32, w: u32) -> u32
     requires { ⌜ (from ≤ 256) × (1 ≤ w) × (w ≤ 256) ⌝ }
     ensures { λ r. ⌜ FirstFree words from w r ⌝ }
 {
@@ -136,7 +136,7 @@ fn lesser(x: u32, y: u32) -> u32
 
 // The next finish after t, or a number past every finish. It is kept as what it lies past t + 1: a finish up to t wraps
 // to a number too large to count, so that one comparison does for two.
-pub fn next_finish<'a>(finish: &'a [u32; 64], count: usize, t: u32) -> u32
+fn next_finish<'a>(finish: &'a [u32; 64], count: usize, t: u32) -> u32
     requires { ⌜ (count ≤ 64) × (t < 4294967295) ⌝ }
     ensures { λ r. ⌜ NextFinish (now (finish .entry)) count t r ⌝ }
 {

@@ -3,8 +3,7 @@ use Prim.Native.Nat.{ℕ, suc, _+_, _-_}
 use mathlib.Core.List.{List}
 use mathlib.Core.Option.{Option}
 use lib.Dec.{ltb}
-use Rattle.lists.specs.Lists.{head?}
-use Rattle.lists.specs.Lists.{range}
+use Rattle.lists.specs.Lists.{head?, range}
 use Rattle.ways.specs.Ways.{Pair, Ways, openingsIn}
 use Rattle.tasks.specs.declared.Task.{Task}
 use Rattle.tasks.specs.declared.Submission.{Submission}

@@ -57,6 +57,7 @@ withBooked k ks = putFirst (λ l. not (live l)) k ks
 unfoldable pub agedTo : ℕ → Task → Task
 agedTo i k = cond (live k) (cond (leb (finish k) i) freeSlot (stamped i k)) k
 
+-- so every slot of the board
 unfoldable pub allAgedTo : ℕ → List Task → List Task
 allAgedTo i ks = map (agedTo i) ks
 

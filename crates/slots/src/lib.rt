@@ -183,7 +183,7 @@ pub fn is_sound(columns: u16, rows: u16, now: u32, tasks: [Task; 64]) -> bool
 }
 
 // A slot at an instant: a task that has finished leaves it free, another has the phase of the instant.
-pub fn aged(k: Task, instant: u32) -> Task
+fn aged(k: Task, instant: u32) -> Task
     ensures { λ r. ⌜ r ≡ agedTo instant k ⌝ }
 {
     if tasks::is_live(k) {

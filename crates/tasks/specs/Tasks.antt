@@ -38,11 +38,13 @@ livePhase Ended = false
 livePhase Waiting = true
 livePhase Running = true
 
+-- "waiting"
 abbrev pub waitingPhase : Phase → Bool
 waitingPhase Ended = false
 waitingPhase Waiting = true
 waitingPhase Running = false
 
+-- "running"
 abbrev pub runningPhase : Phase → Bool
 runningPhase Ended = false
 runningPhase Waiting = false

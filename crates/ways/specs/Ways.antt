@@ -11,6 +11,7 @@ pub record Pair (P : Type 0) : Type 0 where
   pub start : ℕ
   pub place : P
 
+-- "(s, c)"
 abbrev pub pair : {P : Type 0} → ℕ → P → Pair P
 pair s p = record { start = s; place = p }
 

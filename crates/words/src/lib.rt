@@ -8,7 +8,7 @@ ghost use Rattle.lists.specs.Lists.{keep, range};
 ghost use Rattle.words.specs.Words.{bit, column, Least};
 
 // The digits from `from` up to, not including, `to`: all ones, shifted down and then up.
-pub fn span(from: u32, to: u32) -> u64
+fn span(from: u32, to: u32) -> u64
     requires { ⌜ to ≤ 64 ⌝ }
     ensures { λ r. ⌜ ((j : ℕ) → bit r j ≡ (leb from j && ltb j to)) ⌝ }
 {
