@@ -12,6 +12,7 @@ use Rattle.events.specs.declared.Event.{Event}
 use Rattle.events.specs.declared.Event.the-variants.{NewBoard, Submit, Clock, Withdraw}
 use Rattle.session.specs.Recording.{Outcome, outcome}
 
+-- a submission, in the order of document 01's cases
 abbrev pub task : ℕ → ℕ → ℕ → ℕ → ℕ → Submission
 task id w h e d = record { id = id; e = e; d = d; w = w; h = h }
 
@@ -29,6 +30,7 @@ pub data Step : Type 0 where
 unfoldable pub numbers : Told → List ℕ
 numbers a = a .number ∷ a .column ∷ a .start ∷ a .finish ∷ []
 
+-- an event's numbers, and the rest from the board that follows
 unfoldable pub afterEvent : Outcome → (Board → List (List ℕ)) → List (List ℕ)
 afterEvent r rest = numbers (r .answer) ∷ rest (r .board)
 
@@ -56,6 +58,7 @@ pub record Case : Type 0 where
   pub steps : List Step
   pub answers : List (List ℕ)
 
+-- a case in one line
 abbrev pub case : ℕ → ℕ → List Step → List (List ℕ) → Case
 case W H vs out = record { W = W; H = H; steps = vs; answers = out }
 
@@ -66,12 +69,14 @@ same [] (y ∷ ys) = false
 same (x ∷ xs) [] = false
 same (x ∷ xs) (y ∷ ys) = elim (eqb x y) [ true ↦ same xs ys | false ↦ false ]
 
+-- the same lists of numbers
 unfoldable pub sameAll : List (List ℕ) → List (List ℕ) → Bool
 sameAll [] [] = true
 sameAll [] (y ∷ ys) = false
 sameAll (x ∷ xs) [] = false
 sameAll (x ∷ xs) (y ∷ ys) = elim (same x y) [ true ↦ sameAll xs ys | false ↦ false ]
 
+-- what comes of the steps is what the case says
 unfoldable pub passes : Case → Bool
 passes k = sameAll (play (k .steps) (created (k .W) (k .H) .board)) (k .answers)
 

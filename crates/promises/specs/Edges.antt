@@ -14,6 +14,7 @@ use Rattle.promises.specs.Cases.{Step, board, submit, clock, withdraw, h
 unfoldable pub refusedList : ℕ → List ℕ → List ℕ
 refusedList n buffer = n ∷ 0 ∷ buffer
 
+-- THE EDGES, cases 10 and 12 of document 01 among them
 unfoldable pub edgeSet : List Case
 edgeSet =
     -- new board: W 1 to 256, H 1 to 1,024; a refused one leaves the board of zeros, on which every call answers 1

@@ -30,6 +30,7 @@ withClocks (x ∷ xs) = only 0 ∷ x ∷ withClocks xs
 unfoldable pub firstSix : List (List ℕ)
 firstSix = at 1 0 20 ∷ at 4 0 3 ∷ at 4 3 15 ∷ at 7 3 6 ∷ at 7 6 8 ∷ at 4 15 18 ∷ []
 
+-- rows of Table 1 by planner n on its device of 10 x 6
 unfoldable pub seven : ℕ → List (List ℕ) → List (List ℕ) → Case
 seven n rows out = case 10 6 (played n 1 rows) (withClocks out)
 
@@ -37,6 +38,7 @@ seven n rows out = case 10 6 (played n 1 rows) (withClocks out)
 unfoldable pub listing : List Step → List (List ℕ) → Case
 listing vs out = case 4 1 (submit 2 1 2 1 2 9 ∷ submit 2 2 3 1 4 9 ∷ vs) (at 1 0 2 ∷ at 1 2 6 ∷ out)
 
+-- THE PROVING SET, cases 1 to 9
 unfoldable pub provingSet : List Case
 provingSet =
     -- 1 Horizon, and 4 the horizon after it
@@ -97,8 +99,11 @@ tellingSet =
     ∷ waitingAhead (submit 2 6 2 1 2 9 ∷ []) (at 5 1 3 ∷ [])
     -- a task that waits at now holds its columns at its start, and none after its finish
     ∷ waitingAhead (submit 2 6 2 1 5 9 ∷ submit 2 7 3 1 2 8 ∷ submit 2 8 3 1 2 8 ∷ []) (at 5 1 6 ∷ at 1 6 8 ∷ only 10 ∷ [])
-    -- the starts of waiting tasks are not visited, finishes are: Full begins where Stuffing does not look
+    -- where no place is left by the deadline, Stuffing and Full both reject
     ∷ waitingAhead (submit 2 6 2 1 5 9 ∷ submit 2 7 1 1 3 5 ∷ submit 3 7 1 1 3 5 ∷ []) (at 5 1 6 ∷ only 10 ∷ only 10 ∷ [])
+    -- the start of a waiting task is not visited: at 4, a start and no finish, Stuffing would find column 3; Full begins at 2
+    ∷ case 4 1 (submit 0 1 4 1 2 9 ∷ submit 1 2 4 1 2 9 ∷ submit 1 3 2 1 2 9 ∷ withdraw 2 ∷ submit 2 4 2 1 3 8 ∷ submit 3 4 2 1 3 8 ∷ [])
+    (at 1 0 2 ∷ at 1 2 4 ∷ at 1 4 6 ∷ only 0 ∷ only 10 ∷ at 3 2 5 ∷ [])
     ∷ []
 
 -- the listing of document 01: the records of its events, and the lines that `plan` prints
@@ -107,9 +112,11 @@ listingEvents =
     NewBoard 4 1 ∷ Submit 2 (task 1 2 1 2 9) ∷ Submit 2 (task 2 3 1 4 9) ∷ Submit 2 (task 3 1 1 5 5)
     ∷ Submit 3 (task 3 1 1 5 5) ∷ Clock 2 ∷ Withdraw 2 ∷ []
 
+-- a line of the listing
 abbrev pub line : ℕ → ℕ → ℕ → ℕ → ℕ → ℕ → Line
 line n k a c s f = record { event = n; kind = k; answer = a; column = c; start = s; finish = f }
 
+-- the listing's lines, without its header
 unfoldable pub listingLines : List Line
 listingLines =
     line 1 1 0 0 0 0 ∷ line 2 2 0 1 0 2 ∷ line 3 2 0 1 2 6 ∷ line 4 2 10 0 0 0 ∷ line 5 2 0 4 0 5
