@@ -25,7 +25,7 @@ pub struct Findings {
     pub sound: bool,
 }
 
-// W, H and now are in range.
+// W and H are in range.
 pub fn device_fits(columns: u16, rows: u16) -> bool
     ensures { λ r. ⌜ r ≡ deviceFits columns rows ⌝ }
 {
@@ -195,7 +195,7 @@ fn aged(k: Task, instant: u32) -> Task
     k
 }
 
-// Every slot at an instant. Only live slots are stored to.
+// Every slot at an instant.
 pub fn all_aged(tasks: [Task; 64], instant: u32) -> [Task; 64]
     ensures { λ r. ⌜ r ≡ allAgedTo instant tasks ⌝ }
 {
