@@ -11,7 +11,7 @@ use Rattle.tasks.specs.declared.Task.{Task}
 use Rattle.tasks.specs.declared.Submission.{Submission}
 use Rattle.tasks.specs.Numbers.{mostTasks}
 use Rattle.tasks.specs.Tasks.{freeSlot, booked}
-use Rattle.planners.specs.Openings.{Place, ways}
+use Rattle.planners.specs.Openings.{Place, ways, pairWords}
 use Rattle.planners.specs.Planners.{planned}
 use Rattle.slots.specs.Slots.{withBooked, allAgedTo, withoutNamed}
 use Rattle.lookups.specs.Lookups.{stripWords, busyColumns}
@@ -86,11 +86,6 @@ withdrawn b n =
 -- "openings strictly after that pair"
 unfoldable pub remaining : Board → Submission → ℕ → ℕ → List Place
 remaining b a s c = openingsAfter (ways (b .columns) (b .now) (liveOf b) a) (pair s c)
-
--- "start, column"
-unfoldable pub pairWords : List Place → List ℕ
-pairWords [] = []
-pairWords (p ∷ ps) = p .start ∷ p .place ∷ pairWords ps
 
 -- OPENINGS: "for as many openings strictly after that pair as fit .. returns how many, and whether a further one remains"
 unfoldable pub opened : Board → Submission → ℕ → ℕ → ℕ → Opened

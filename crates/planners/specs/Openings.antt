@@ -1,6 +1,6 @@
 -- The openings for a submission on a device of W columns at now, among its live tasks; Full takes the first. Assumes nothing.
 use Prim.Native.Nat.{ℕ, suc, _+_, _-_}
-use mathlib.Core.List.{List}
+use mathlib.Core.List.{List, [], _∷_}
 use mathlib.Core.Option.{Option}
 use lib.Dec.{ltb}
 use Rattle.lists.specs.Lists.{head?, range}
@@ -32,3 +32,8 @@ module _ (W now : ℕ) (ts : List Task) (a : Submission) where
   -- "Full takes the earliest start, then the lowest column"
   unfoldable pub full : Option Place
   full = head? openings
+
+-- OPENINGS as they are written: "start, column"
+unfoldable pub pairWords : List Place → List ℕ
+pairWords [] = []
+pairWords (p ∷ ps) = p .start ∷ p .place ∷ pairWords ps

@@ -13,13 +13,13 @@ use Rattle.ways.specs.Ways.{isOpen, pairsIn, openingsIn, after, openingsAfter, 
 use Rattle.tasks.specs.Tasks.{meets, covers, holds, phaseAt, stamped, zeros, booked}
 use Rattle.columns.specs.Columns.{join, runs, bestFit}
 use Rattle.planners.specs.Lent.{tasksOf}
-use Rattle.planners.specs.Openings.{ways, full}
+use Rattle.planners.specs.Openings.{ways, full, pairWords}
 use Rattle.planners.specs.Planners.{free, release, visited, clearOfWaiting, candidates, releasedEdges, reference, horizon, stuffing, planned}
 use Rattle.slots.specs.Slots.{agree, taskSound, slotSound, together, sound, named, known, withBooked, agedTo, allAgedTo, withoutNamed, runsNamed}
 use Rattle.slots.specs.Survey.{clashAt}
 use Rattle.lookups.specs.Lookups.{horizonList, stripWords, busyColumns}
 use Rattle.board.specs.Answers.{told}
-use Rattle.board.specs.Calls.{orRefused, freshBoard, created, withTask, taken, answered, submitted, boardAt, clocked, withdrawn, remaining, pairWords, opened, openedBuffer, listed, listedBuffer, counted}
+use Rattle.board.specs.Calls.{orRefused, freshBoard, created, withTask, taken, answered, submitted, boardAt, clocked, withdrawn, remaining, opened, openedBuffer, listed, listedBuffer, counted}
 use Rattle.board.specs.Refusals.{refusal, refusedCreate, refusedSubmit, refusedInstant, refusedWithdraw, refusedOpenings, refusedHorizon}
 use Rattle.board.specs.Untested.{clockedUntested, withdrawnAt, withdrawnUntested}
 use Rattle.events.specs.Records.{bytesOf, numberOf, kindOf, bodyOf, recordOf, wholeOr15, readFrom, written, writtenBuffer, toldRead, toldWritten}

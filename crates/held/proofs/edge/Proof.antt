@@ -1,13 +1,13 @@
--- `full::edge` meets its contract: no column, and those from the width on. Assumes nothing.
+-- `held::edge` meets its contract: no column, and those from the width on. Assumes nothing.
 use Prim.Native.Nat.{_+_}
 use mathlib.Core.Path.{ap, _∙_}
 use mathlib.Core.Bool.{_&&_, _||_}
 use lib.Dec.{leb, ltb}
 use Rattle.words.proofs.Columns.{column-none}
-use Rattle.full.proofs.Columns.{edge-past}
+use Rattle.held.proofs.Columns.{edge-past}
 use borrow.Author.Needs.{needs}
-use Rattle.full.proofs.edge.Statement.{statement}
-use Rattle.full.proofs.edge.Tie as tie
+use Rattle.held.proofs.edge.Statement.{statement}
+use Rattle.held.proofs.edge.Tie as tie
 
 add-marked : tie.Need-add-marked
 add-marked c = search needs

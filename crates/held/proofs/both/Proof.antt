@@ -1,9 +1,9 @@
--- `full::both` meets its contract: by the test. Assumes nothing.
+-- `held::both` meets its contract: by the test. Assumes nothing.
 use mathlib.Core.Path.{sym, _∙_}
 use mathlib.Core.Bool.{true, false}
-use Rattle.full.proofs.Columns.{picked}
-use Rattle.full.proofs.both.Statement.{statement}
-use Rattle.full.proofs.both.Tie as tie
+use Rattle.held.proofs.Columns.{picked}
+use Rattle.held.proofs.both.Statement.{statement}
+use Rattle.held.proofs.both.Tie as tie
 
 returns : tie.Need-returns
 returns c = λ j h. picked true j h ∙ sym (c .if1 .taken)

@@ -1,15 +1,15 @@
--- `full::held_word` meets its contract: the columns of the tasks passed are set. Assumes nothing.
+-- `held::held_word` meets its contract: the columns of the tasks passed are set. Assumes nothing.
 use Prim.Native.Nat.{ℕ, _-_, _≤_}
 use mathlib.Core.Path.{_≡_, sym}
 use mathlib.Core.Bool.{_||_, or-false}
 use native.Mathlib.Omega.{arith}
 use Rattle.lists.specs.Lists.{some?, range}
 use Rattle.words.specs.Words.{bit}
-use Rattle.full.specs.Held.{inWord}
-use Rattle.full.proofs.Columns.{word-more}
+use Rattle.held.specs.Held.{inWord}
+use Rattle.held.proofs.Columns.{word-more}
 use borrow.Author.Needs.{needs}
-use Rattle.full.proofs.held_word.Statement.{statement}
-use Rattle.full.proofs.held_word.Tie as tie
+use Rattle.held.proofs.held_word.Statement.{statement}
+use Rattle.held.proofs.held_word.Tie as tie
 
 abbrev Inv-loop : tie.InvT-loop
 Inv-loop there masks count base word held₀ i₀ held i = (i ≤ count) × ((j : ℕ) → bit held j ≡ (bit word j || some? (inWord there masks base j) (range 0 i)))

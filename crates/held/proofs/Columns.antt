@@ -20,7 +20,7 @@ use Rattle.planners.specs.Lent.{OnDevice, tasksOf, taskAt}
 use Rattle.words.specs.Words.{bit}
 use Rattle.words.proofs.Digits.{bit-or, bit-and, bit-ones, bit-of-zero}
 use Rattle.words.proofs.Columns.{column-at, by-words}
-use Rattle.full.specs.Held.{inStay, Masked, InTime, inWord, Edge, Held}
+use Rattle.held.specs.Held.{inStay, Masked, InTime, inWord, Edge, Held}
 
 or-comm : (a b : Bool) → (a || b) ≡ (b || a)
 or-comm true b = sym (or-true b)

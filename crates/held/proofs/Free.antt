@@ -6,7 +6,7 @@ use mathlib.Core.List.{List}
 use native.Mathlib.Omega.{arith}
 use native.Mathlib.Decide.{decLt}
 use Rattle.words.specs.Words.{column, Least}
-use Rattle.full.specs.Held.{Clear, FirstFree}
+use Rattle.held.specs.Held.{Clear, FirstFree}
 
 module _ (words : List ℕ) (from w : ℕ) where
   -- no column after `from` and before `at` begins w clear columns
@@ -61,3 +61,14 @@ module _ (words : List ℕ) (from w : ℕ) where
     clear = λ p. absurd (omega arith);
     least = λ c p q k. o .none c p (omega (arith, k .fits)) k;
   }
+
+-- the clear columns that a column begins reach to the next set one
+pub run-end : {words : List ℕ} {from w x end : ℕ} → FirstFree words from w x → 0 < x → Least (column words) x 257 end → x + w ≤ end
+run-end {words} {from} {w} {x} {end} g m y = go (decLt end (x + w))
+  where
+    k : Clear words w x
+    k = g .clear m
+
+    go : Dec (end < x + w) → x + w ≤ end
+    go (yes u) = absurd (true≢false (sym (y .here (omega (arith, k .fits))) ∙ k .clear end (y .low) u))
+    go (no u) = omega arith

@@ -1,14 +1,14 @@
--- `full::next_finish` meets its contract: none of the finishes passed lies between. Assumes nothing.
+-- `held::next_finish` meets its contract: none of the finishes passed lies between. Assumes nothing.
 use Prim.Native.Nat.{ℕ, _+_, _-_, _%_, _≤_, _<_, min}
 use mathlib.Core.Path.{_≡_}
 use mathlib.Core.List.{List}
 use native.Mathlib.Omega.{arith}
 use native.Mathlib.Decide.{ℕ-discrete as decEq}
 use lib.ListN.{getD}
-use Rattle.full.specs.Held.{NextFinish}
+use Rattle.held.specs.Held.{NextFinish}
 use borrow.Author.Needs.{needs}
-use Rattle.full.proofs.next_finish.Statement.{statement}
-use Rattle.full.proofs.next_finish.Tie as tie
+use Rattle.held.proofs.next_finish.Statement.{statement}
+use Rattle.held.proofs.next_finish.Tie as tie
 
 -- `past` is what the finish lies past t + 1, where it comes after t
 one-more : (f : List ℕ) (n t best past r : ℕ) → NextFinish f n t (t + 1 + best) → past < 4294967296 → (past + (t + 1)) % 4294967296 ≡ getD f n 0 → r ≡ min past best

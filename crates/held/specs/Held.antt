@@ -50,3 +50,9 @@ pub record FirstFree (words : List ℕ) (from w r : ℕ) : Type 0 where
 pub record NextFinish (f : List ℕ) (n t r : ℕ) : Type 0 where
   pub after : t < r
   pub least : (i : ℕ) → i < n → t < getD f i 0 → r ≤ getD f i 0
+
+-- until r, r not included, a stay of e ticks meets the tasks that it meets from t on: none of the first n finishes, none comes into it
+pub record Unchanged (s f : List ℕ) (n t e r : ℕ) : Type 0 where
+  pub after : t < r
+  pub finishes : (i : ℕ) → i < n → t < getD f i 0 → r ≤ getD f i 0
+  pub starts : (i : ℕ) → i < n → t + e ≤ getD s i 0 → r + e ≤ getD s i 0 + 1

@@ -1,12 +1,12 @@
--- `full::held_words` meets its contract: the words passed have the columns of every task, and the others lie past the width. Assumes nothing.
+-- `held::held_words` meets its contract: the words passed have the columns of every task, and the others lie past the width. Assumes nothing.
 use Prim.Native.Nat.{_-_, _≤_}
 use mathlib.Core.Path.{_≡_}
 use native.Mathlib.Omega.{arith}
 use lib.ListN.{length}
-use Rattle.full.proofs.Columns.{Gathered, gather-none, gather-more, gather-held}
+use Rattle.held.proofs.Columns.{Gathered, gather-none, gather-more, gather-held}
 use borrow.Author.Needs.{needs}
-use Rattle.full.proofs.held_words.Statement.{statement}
-use Rattle.full.proofs.held_words.Tie as tie
+use Rattle.held.proofs.held_words.Statement.{statement}
+use Rattle.held.proofs.held_words.Tie as tie
 
 abbrev Inv-loop : tie.InvT-loop
 Inv-loop start finish masks count width t e end there need words₀ k₀ words k = (k ≤ need) × Gathered there masks words₀ count words k

@@ -8,7 +8,7 @@ use lib.Dec.{leb, ltb}
 use lib.ListN.{length, getD, set, length-set}
 use Rattle.lists.proofs.Append.{stored}
 use Rattle.words.specs.Words.{bit}
-use Rattle.full.specs.Held.{Masked}
+use Rattle.held.specs.Held.{Masked}
 
 module _ (l r : List ℕ) where
   -- column k * 64 + 1 + j is one of task i's

@@ -1,13 +1,13 @@
--- `full::in_time` meets its contract: the times of the tasks passed are looked at. Assumes nothing.
+-- `held::in_time` meets its contract: the times of the tasks passed are looked at. Assumes nothing.
 use Prim.Native.Nat.{_-_, _≤_}
 use mathlib.Core.Path.{_≡_, refl}
 use native.Mathlib.Omega.{arith}
 use lib.ListN.{length, length-set}
-use Rattle.full.specs.Held.{InTime}
-use Rattle.full.proofs.Columns.{time-none, time-more}
+use Rattle.held.specs.Held.{InTime}
+use Rattle.held.proofs.Columns.{time-none, time-more}
 use borrow.Author.Needs.{needs}
-use Rattle.full.proofs.in_time.Statement.{statement}
-use Rattle.full.proofs.in_time.Tie as tie
+use Rattle.held.proofs.in_time.Statement.{statement}
+use Rattle.held.proofs.in_time.Tie as tie
 
 abbrev Inv-loop : tie.InvT-loop
 Inv-loop start finish count t end there₀ i₀ there i = (i ≤ count) × (length there ≡ 64) × InTime start finish i t end there

@@ -1,13 +1,13 @@
--- `full::masks` meets its contract: the words of the tasks passed are stored. Assumes nothing.
+-- `held::masks` meets its contract: the words of the tasks passed are stored. Assumes nothing.
 use Prim.Native.Nat.{_-_, _≤_}
 use mathlib.Core.Path.{_≡_, refl}
 use native.Mathlib.Omega.{arith}
 use lib.ListN.{length, length-set}
-use Rattle.full.specs.Held.{Masked}
-use Rattle.full.proofs.Masking.{mask-none, mask-more}
+use Rattle.held.specs.Held.{Masked}
+use Rattle.held.proofs.Masking.{mask-none, mask-more}
 use borrow.Author.Needs.{needs}
-use Rattle.full.proofs.masks.Statement.{statement}
-use Rattle.full.proofs.masks.Tie as tie
+use Rattle.held.proofs.masks.Statement.{statement}
+use Rattle.held.proofs.masks.Tie as tie
 
 abbrev Inv-loop : tie.InvT-loop
 Inv-loop left past count masks₀ i₀ masks i = (i ≤ count) × (length masks ≡ 256) × Masked i left past masks

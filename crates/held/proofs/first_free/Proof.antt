@@ -1,11 +1,11 @@
--- `full::first_free` meets its contract: from one run of clear columns to the next. Assumes nothing.
+-- `held::first_free` meets its contract: from one run of clear columns to the next. Assumes nothing.
 use Prim.Native.Nat.{_-_}
 use mathlib.Core.Path.{refl}
 use native.Mathlib.Omega.{arith}
-use Rattle.full.proofs.Free.{Sought, seek, seek-found, seek-less, seek-on, seek-end}
+use Rattle.held.proofs.Free.{Sought, seek, seek-found, seek-less, seek-on, seek-end}
 use borrow.Author.Needs.{needs}
-use Rattle.full.proofs.first_free.Statement.{statement}
-use Rattle.full.proofs.first_free.Tie as tie
+use Rattle.held.proofs.first_free.Statement.{statement}
+use Rattle.held.proofs.first_free.Tie as tie
 
 abbrev Inv-loop : tie.InvT-loop
 Inv-loop words from w at₀ at = Sought words from w at

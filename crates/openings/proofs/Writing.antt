@@ -1,0 +1,132 @@
+-- Openings written one after the other: a run more, and what the buffer and the answer are when no more fits or none is left. Assumes nothing.
+use Prim.Native.Nat.{ℕ, zero, suc, _+_, _-_, _*_, _/_, _≤_, _<_}
+use mathlib.Core.Path.{_≡_, refl, sym, ap, _∙_}
+use mathlib.Core.Bool.{true, false}
+use mathlib.Core.List.{List, [], _∷_, _++_, map, append-nil, append-assoc, map-append}
+use native.Mathlib.Nat.{zero-add}
+use native.Mathlib.Omega.{arith}
+use borrow.Author.Tests.{lt-ltb, le-ltb}
+use lib.Dec.{ltb}
+use lib.ListN.{length, take, drop, set, length-append, length-map}
+use lib.Seq.{sets, sets-eq, length-sets, take-all, take-append-seam}
+use Rattle.lists.specs.Lists.{range, overFront}
+use Rattle.lists.proofs.Append.{range-more}
+use Rattle.ways.specs.Ways.{pair}
+use Rattle.planners.specs.Openings.{Place, pairWords}
+use Rattle.openings.specs.declared.Filled.{Filled}
+use Rattle.openings.specs.Filled.{filledOf, runAt}
+
+-- stores behind stores
+sets-append : (l : List ℕ) (i : ℕ) (xs ys : List ℕ) → sets (sets l i xs) (i + length xs) ys ≡ sets l i (xs ++ ys)
+sets-append l i [] ys = ap (λ k. sets l k ys) (let z : i + 0 ≡ i = omega arith in z)
+sets-append l i (x ∷ xs) ys = ap (λ k. sets (sets (set l i x) (suc i) xs) k ys) (let z : i + suc (length xs) ≡ suc i + length xs = omega arith in z) ∙ sets-append (set l i x) (suc i) xs ys
+
+words-append : (ps qs : List Place) → pairWords (ps ++ qs) ≡ pairWords ps ++ pairWords qs
+unfolding pairWords
+words-append [] qs = refl
+words-append (p ∷ ps) qs = ap (λ l. p .start ∷ p .place ∷ l) (words-append ps qs)
+
+words-length : (ps : List Place) → length (pairWords ps) ≡ 2 * length ps
+unfolding pairWords
+words-length [] = refl
+words-length (p ∷ ps) = let h = words-length ps in omega arith
+
+range-length : (a n : ℕ) → length (range a n) ≡ n
+unfolding range
+range-length a zero = refl
+range-length a (suc n) = ap suc (range-length (suc a) n)
+
+pub run-length : (t from n : ℕ) → length (runAt t from n) ≡ n
+run-length t from n = length-map (range from n) (pair t) ∙ range-length from n
+
+-- none of a run yet
+pub put-none : (l : List ℕ) (at t from : ℕ) → l ≡ sets l at (pairWords (runAt t from (from - from)))
+unfolding pairWords range
+put-none l at t from = ap (λ k. sets l at (pairWords (runAt t from k))) (let z : 0 ≡ from - from = omega arith in z)
+
+-- ONE OPENING MORE of a run
+pub put-one : (l buffer : List ℕ) (at t from c : ℕ) → from ≤ c → buffer ≡ sets l at (pairWords (runAt t from (c - from)))
+    → set (set buffer (at + 2 * (c - from)) t) (at + 2 * (c - from) + 1) c ≡ sets l at (pairWords (runAt t from (c + 1 - from)))
+unfolding pairWords
+put-one l buffer at t from c h e =
+    let n : ℕ = c - from in
+    let ps = runAt t from n in
+    let more : c + 1 - from ≡ n + 1 = omega arith in
+    let here : from + n ≡ c = omega arith in
+    let size : at + length (pairWords ps) ≡ at + 2 * n = omega (arith, words-length ps, run-length t from n) in
+    let next : at + 2 * n + 1 ≡ suc (at + 2 * n) = omega arith in
+    ap (λ b. set (set b (at + 2 * n) t) (at + 2 * n + 1) c) e
+    ∙ ap (λ k. set (set (sets l at (pairWords ps)) (at + 2 * n) t) k c) next
+    ∙ ap (λ k. sets (sets l at (pairWords ps)) k (t ∷ c ∷ [])) (sym size)
+    ∙ sets-append l at (pairWords ps) (t ∷ c ∷ [])
+    ∙ ap (sets l at) (sym (words-append ps (pair t c ∷ [])))
+    ∙ ap (λ qs. sets l at (pairWords qs)) (sym (ap (λ k. runAt t from k) more ∙ ap (map (pair t)) (range-more from n ∙ ap (λ x. range from n ++ (x ∷ [])) here) ∙ map-append (pair t) (range from n) (c ∷ [])))
+
+-- of the openings `all`, n stand in the buffer, and `rest` is left
+pub record Written (all : List Place) (l buffer : List ℕ) (n : ℕ) (rest : List Place) : Type 0 where
+  pub done : List Place
+  pub parts : all ≡ done ++ rest
+  pub words : buffer ≡ sets l 0 (pairWords done)
+  pub count : n ≡ length done
+  pub room : n * 2 ≤ length l
+
+pub write-none : (all : List Place) (l : List ℕ) → Written all l l 0 all
+unfolding pairWords
+write-none all l = record { done = []; parts = refl; words = refl; count = refl; room = omega arith }
+
+module _ {all : List Place} {l buffer : List ℕ} {n : ℕ} {rest : List Place} (o : Written all l buffer n rest) where
+  -- no store changes the length
+  pub same-room : length buffer ≡ length l
+  same-room = ap length (o .words) ∙ length-sets l 0 (pairWords (o .done))
+
+  -- the same is left after another pair
+  pub write-on : {more : List Place} → rest ≡ more → Written all l buffer n more
+  write-on e = record { done = o .done; parts = rw (← e) (o .parts); words = o .words; count = o .count; room = o .room }
+
+  -- A RUN MORE
+  pub write-run : (ps : List Place) {more : List Place} {after : List ℕ} {m : ℕ} → rest ≡ ps ++ more → after ≡ sets buffer (n * 2) (pairWords ps) → m ≡ n + length ps → m * 2 ≤ length l
+      → Written all l after m more
+  write-run ps {more} {after} {m} e s c h = record {
+    done = o .done ++ ps;
+    parts = o .parts ∙ ap (λ x. o .done ++ x) e ∙ sym (append-assoc (o .done) ps more);
+    words =
+        let size : n * 2 ≡ 0 + length (pairWords (o .done)) = omega (arith, words-length (o .done), o .count) in
+        s ∙ ap (λ b. sets b (n * 2) (pairWords ps)) (o .words) ∙ ap (λ k. sets (sets l 0 (pairWords (o .done))) k (pairWords ps)) size
+        ∙ sets-append l 0 (pairWords (o .done)) (pairWords ps) ∙ ap (sets l 0) (sym (words-append (o .done) ps));
+    count = omega (arith, length-append (o .done) ps, o .count);
+    room = h;
+  }
+
+  -- what was written are the first of them, as many as fit
+  finished : take (length l / 2) all ≡ o .done → buffer ≡ overFront (pairWords (take (length l / 2) all)) l
+  finished e =
+      let fits : 0 + length (pairWords (o .done)) ≤ length l = omega (arith, words-length (o .done), o .count, o .room) in
+      o .words ∙ sets-eq (pairWords (o .done)) l 0 fits ∙ rw zero-add (ap (λ ps. overFront (pairWords ps) l) (sym e))
+
+  -- NONE IS LEFT
+  pub write-all : rest ≡ [] → (record { count = n; more = false } ≡ filledOf (length l) all) × (buffer ≡ overFront (pairWords (take (length l / 2) all)) l)
+  unfolding filledOf
+  write-all e = (rw (first, size, le-ltb (length l / 2) (length (o .done)) (omega (arith, o .count, o .room))) (ap (λ k. record { count = k; more = false }) (o .count)), finished first)
+    where
+      every : all ≡ o .done
+      every = o .parts ∙ ap (λ x. o .done ++ x) e ∙ append-nil (o .done)
+
+      first : take (length l / 2) all ≡ o .done
+      first = ap (take (length l / 2)) every ∙ take-all (length l / 2) (o .done) (omega (arith, o .count, o .room))
+
+      size : length all ≡ length (o .done)
+      size = ap length every
+
+  -- NO MORE FITS, and one is left
+  pub write-full : {p : Place} {more : List Place} → rest ≡ p ∷ more → length l / 2 ≤ n → (record { count = n; more = true } ≡ filledOf (length l) all) × (buffer ≡ overFront (pairWords (take (length l / 2) all)) l)
+  unfolding filledOf
+  write-full {p} {more} e h = (rw (first, lt-ltb (length l / 2) (length all) size) (ap (λ k. record { count = k; more = true }) (o .count)), finished first)
+    where
+      same : length l / 2 ≡ length (o .done)
+      same = omega (arith, o .count, o .room)
+
+      first : take (length l / 2) all ≡ o .done
+      first = ap (take (length l / 2)) (o .parts) ∙ ap (λ k. take k (o .done ++ rest)) same ∙ take-append-seam (o .done) rest
+
+      size : length l / 2 < length all
+      size = omega (arith, ap length (o .parts ∙ ap (λ x. o .done ++ x) e), length-append (o .done) (p ∷ more))
