@@ -105,7 +105,7 @@ module _ (b : Board) (n : ℕ) (a : Submission) (v : Findings) (o : Surveyed (b 
       here i h = omega (arith, o .count)
 
   -- they stand for the live tasks
-  lent : tasksOf (v .count) (v .start) (v .finish) (v .left) (v .past) ≡ map bare (liveOf b)
+  pub lent : tasksOf (v .count) (v .start) (v .finish) (v .left) (v .past) ≡ map bare (liveOf b)
   lent = lent-tasks (v .count) (v .start) (v .finish) (v .left) (v .past) (liveOf b) (o .count) (o .starts) (o .finishes every) (o .lefts) (o .pasts)
 
   -- the planners' answers are the book's

@@ -5,7 +5,7 @@ ghost use mathlib.Core.Bool.{not};
 ghost use mathlib.Core.List.{[], _∷_};
 ghost use Prim.Native.Nat.{_+_, _≤_, _<_};
 ghost use lib.Dec.{leb, ltb, eqb};
-ghost use lib.ListN.{set};
+ghost use lib.ListN.{length, set};
 ghost use Rattle.tasks.specs.Numbers.{sizeFits, timeFits};
 ghost use Rattle.tasks.specs.Tasks.{booked};
 ghost use Rattle.planners.specs.Planners.{planned};
@@ -13,7 +13,7 @@ ghost use Rattle.planners.specs.Lent.{foundOf, tasksOf, OnDevice, asked};
 ghost use Rattle.board.specs.declared.Answer.the-variants.{Placed};
 ghost use Rattle.board.specs.Answers.{told};
 ghost use Rattle.board.specs.Refusals.{_when_, refusal, soundBoard};
-ghost use Rattle.board.specs.Calls.{withTasks, freshBoard, created, submitted, clocked, withdrawn};
+ghost use Rattle.board.specs.Calls.{withTasks, freshBoard, created, submitted, clocked, withdrawn, opened, openedBuffer};
 ghost use Rattle.board.specs.Untested.{clockedUntested, withdrawnUntested, submittedBooked};
 use planners::Found;
 use slots::Findings;
@@ -114,6 +114,22 @@ fn refuse(
     }
     if 64 <= count {
         return 9;
+    }
+    0
+}
+
+// The refusals of a request for openings after 1: 5, 6, 8. The id is not read.
+fn refuse_openings(columns: u16, rows: u16, clock: u32, a: Submission) -> u8
+    ensures { λ r. ⌜ r ≡ refusal ((5 when not (sizeFits columns rows (a .w) (a .h))) ∷ (6 when not (timeFits (a .e) (a .d))) ∷ (8 when ltb (a .d) (clock + a .e)) ∷ []) ⌝ }
+{
+    if !tasks::size_fits(columns, rows, a.w, a.h) {
+        return 5;
+    }
+    if !tasks::time_fits(a.e, a.d) {
+        return 6;
+    }
+    if (a.d as u64) < clock as u64 + a.e as u64 {
+        return 8;
     }
     0
 }
@@ -364,6 +380,59 @@ impl Board {
         self.tasks[slot] = tasks::free_slot();
         Withdrawn {
             number: 0,
+            board: self,
+        }
+    }
+    // The openings for a task strictly after a pair, as many as the lent buffer has room for, start and column each: 1, 5, 6, 8.
+    pub fn openings(
+        self,
+        a: Submission,
+        start: u32,
+        column: u32,
+        buffer: &mut [u32],
+    ) -> Opened
+        ensures { λ r. ⌜ r ≡ opened self a start column (length (now (buffer .entry))) ⌝ }
+        ensures { λ r. ⌜ now (buffer .exit) ≡ openedBuffer self a start column (now (buffer .entry)) ⌝ }
+    {
+        let tasks = self.tasks;
+        let v = slots::survey(self.columns, self.rows, self.now, tasks);
+        if !slots::found_sound(self.columns, self.rows, self.now, v) {
+            return Opened {
+                number: 1,
+                count: 0,
+                more: false,
+                board: self,
+            };
+        }
+        let number = refuse_openings(self.columns, self.rows, self.now, a);
+        if 0 < number {
+            return Opened {
+                number: number,
+                count: 0,
+                more: false,
+                board: self,
+            };
+        }
+        let n = v.count;
+        let filled = openings::list(
+            &v.start,
+            &v.finish,
+            &v.left,
+            &v.past,
+            n,
+            self.columns as u32,
+            self.now,
+            a.w as u32,
+            a.e,
+            a.d,
+            start,
+            column,
+            buffer,
+        );
+        Opened {
+            number: 0,
+            count: filled.count,
+            more: filled.more,
             board: self,
         }
     }

@@ -11,7 +11,7 @@ use Rattle.lists.specs.Lists.{some?, keep, head?, orElse, firstOf, highest, ran
 use Rattle.lists.proofs.Bools.{and-l, and-r}
 use Rattle.lists.proofs.Members.{keep-no}
 use Rattle.lists.proofs.Append.{some-map, keep-map, map-map, map-range, holds-at}
-use Rattle.ways.specs.Ways.{Pair, Ways, isOpen, pairsIn, openingsIn}
+use Rattle.ways.specs.Ways.{Pair, Ways, isOpen, pairsIn, openingsIn, after, openingsAfter}
 use Rattle.tasks.specs.declared.Phase.the-variants.{Ended}
 use Rattle.tasks.specs.declared.Task.{Task}
 use Rattle.tasks.specs.declared.Submission.{Submission}
@@ -87,6 +87,10 @@ module _ (W now : ℕ) (ts : List Task) (a : Submission) where
   openings-bare =
       ap (λ p. keep p (pairsIn (ways W now ts a)))
       (fun-ext (λ q. unfold isOpen meets in ap not (some-map (meets (booked now a (q .start) (q .place))) bare ts)))
+
+  pub after-bare : (p : Place) → openingsAfter (ways W now us a) p ≡ openingsAfter (ways W now ts a) p
+  unfolding openingsAfter after ways
+  after-bare p = ap (keep (after (ways W now ts a) p)) openings-bare
 
   pub full-bare : full W now us a ≡ full W now ts a
   unfolding full

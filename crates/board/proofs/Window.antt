@@ -1,0 +1,106 @@
+-- A request for openings to a sound board: what was surveyed serves the refusals and the list. Assumes nothing.
+use Prim.Native.Nat.{ℕ, zero, suc, _+_, _/_, _≤_, _<_}
+use mathlib.Core.Path.{_≡_, refl, sym, ap, _∙_}
+use mathlib.Core.Bool.{true, false, not}
+use mathlib.Core.List.{List, [], _∷_}
+use native.Mathlib.Omega.{arith}
+use lib.Dec.{T, leb, ltb, leb→le, nltb→le}
+use lib.ListN.{length, take}
+use Rattle.lists.specs.Lists.{overFront}
+use Rattle.lists.proofs.Bools.{and-l, and-r, not-not}
+use Rattle.ways.specs.Ways.{pair, after, openingsAfter}
+use Rattle.tasks.specs.declared.Submission.{Submission}
+use Rattle.tasks.specs.Numbers.{within, sizeFits, timeFits}
+use Rattle.tasks.proofs.Laws.{Between, within-out}
+use Rattle.tasks.specs.Tasks.{meets, stamped, booked}
+use Rattle.planners.specs.Openings.{Place, ways, pairWords}
+use Rattle.planners.specs.Lent.{tasksOf, OnDevice, asked}
+use Rattle.planners.proofs.Bare.{bare, after-bare}
+use Rattle.slots.specs.declared.Findings.{Findings}
+use Rattle.slots.specs.Survey.{Surveyed}
+use Rattle.slots.proofs.Soundness.{sound-out}
+use Rattle.openings.specs.declared.Filled.{Filled}
+use Rattle.openings.specs.Filled.{filledOf}
+use Rattle.board.specs.declared.Board.{Board}
+use Rattle.board.specs.declared.Opened.{Opened}
+use Rattle.board.specs.Refusals.{Test, _when_, refusal, liveOf, soundBoard, badSize, badTime, tooLate, refusedOpenings}
+use Rattle.board.specs.Calls.{orRefused, remaining, opened, openedBuffer}
+use Rattle.board.proofs.Refusals.{none-holds, sound-passes, unsound-refused}
+use Rattle.board.proofs.Kept.{SoundBoard}
+use Rattle.board.proofs.Submit.{on-device, lent}
+
+-- the tests after test 1
+abbrev pub windowTests : Board → Submission → List Test
+windowTests b a = badSize b a ∷ badTime a ∷ tooLate b a ∷ []
+
+-- a well-formed task whose deadline can still be reached
+pub record Reachable (b : Board) (a : Submission) : Type 0 where
+  pub w : Between 1 (b .columns) (a .w)
+  pub h : Between 1 (b .rows) (a .h)
+  pub e : Between 1 1000000 (a .e)
+  pub d : a .d ≤ 2000000000
+  pub reachable : b .now + a .e ≤ a .d
+
+-- WHAT A REQUEST THAT IS NOT REFUSED BRINGS
+pub window : (b : Board) (a : Submission) → refusal (windowTests b a) ≡ 0 → Reachable b a
+window b a e =
+    let r5 = none-holds 5 _ _ (omega arith) e in
+    let r6 = none-holds 6 _ _ (omega arith) (r5 .1) in
+    let r8 = none-holds 8 _ _ (omega arith) (r6 .1) in
+    let five = not-not (sizeFits (b .columns) (b .rows) (a .w) (a .h)) (r5 .0) in
+    let six = not-not (timeFits (a .e) (a .d)) (r6 .0) in
+    record {
+      w = within-out 1 (b .columns) (a .w) (and-l (within 1 (b .columns) (a .w)) (within 1 (b .rows) (a .h)) five);
+      h = within-out 1 (b .rows) (a .h) (and-r (within 1 (b .columns) (a .w)) (within 1 (b .rows) (a .h)) five);
+      e = within-out 1 1000000 (a .e) (and-l (within 1 1000000 (a .e)) (leb (a .d) 2000000000) six);
+      d = leb→le (a .d) 2000000000 (and-r (within 1 1000000 (a .e)) (leb (a .d) 2000000000) six);
+      reachable = nltb→le (a .d) (b .now + a .e) (r8 .0);
+    }
+
+module _ (b : Board) (a : Submission) (s c : ℕ) (buffer : List ℕ) where
+  -- what is promised of the answer and the buffer
+  abbrev pub Promised : Opened → List ℕ → Type 0
+  Promised r after = (r ≡ opened b a s c (length buffer)) × (after ≡ openedBuffer b a s c buffer)
+
+  -- A REFUSAL: nothing is counted, nothing is written
+  pub refused-opened : (k : ℕ) → refusedOpenings b a ≡ k → 0 < k → Promised (record { number = k; count = 0; more = false; board = b }) buffer
+  unfolding opened openedBuffer orRefused
+  refused-opened zero e h = absurd (omega arith)
+  refused-opened (suc k) e h = (rw e, rw e)
+
+  pub unsound-opened : soundBoard b ≡ false → Promised (record { number = 1; count = 0; more = false; board = b }) buffer
+  unsound-opened e = refused-opened 1 ((unfold refusedOpenings in unsound-refused b (windowTests b a) e)) (omega arith)
+
+  module _ (v : Findings) (o : Surveyed (b .columns) (b .rows) (b .now) (b .tasks) v) (good : soundBoard b ≡ true) {r : ℕ} (e : r ≡ refusal (windowTests b a)) where
+    tests : refusedOpenings b a ≡ r
+    unfolding refusedOpenings
+    tests = sound-passes b (windowTests b a) good ∙ sym e
+
+    pub window-refused : 0 < r → Promised (record { number = r; count = 0; more = false; board = b }) buffer
+    window-refused h = refused-opened r tests h
+
+    module _ (z : r ≡ 0) where
+      -- what the list asks
+      pub may-list : OnDevice (b .columns) (v .count) (v .start) (v .finish) (v .left) (v .past) × ((1 ≤ a .w) × (a .w ≤ b .columns) × (1 ≤ a .e) × (b .now + a .e ≤ a .d) × (a .d ≤ 2000000000))
+      may-list =
+          let k = window b a (sym e ∙ z) in
+          (on-device b 0 a v o good, (k .w .low, k .w .high, k .e .low, k .reachable, k .d))
+
+      -- the list over what was surveyed is the book's
+      remaining-lent : openingsAfter (ways (b .columns) (b .now) (tasksOf (v .count) (v .start) (v .finish) (v .left) (v .past)) (asked (a .w) (a .e) (a .d))) (pair s c) ≡ remaining b a s c
+      unfolding remaining
+      remaining-lent =
+          ap (λ ts. openingsAfter (ways (b .columns) (b .now) ts (asked (a .w) (a .e) (a .d))) (pair s c)) (lent b 0 a v o good)
+          ∙ after-bare (b .columns) (b .now) (liveOf b) (asked (a .w) (a .e) (a .d)) (pair s c)
+          ∙ (unfold openingsAfter after ways booked stamped meets in refl)
+
+      -- DONE
+      pub listed-opened : {f : Filled} {written : List ℕ}
+          → f ≡ filledOf (length buffer) (openingsAfter (ways (b .columns) (b .now) (tasksOf (v .count) (v .start) (v .finish) (v .left) (v .past)) (asked (a .w) (a .e) (a .d))) (pair s c))
+          → written ≡ overFront (pairWords (take (length buffer / 2) (openingsAfter (ways (b .columns) (b .now) (tasksOf (v .count) (v .start) (v .finish) (v .left) (v .past)) (asked (a .w) (a .e) (a .d))) (pair s c)))) buffer
+          → Promised (record { number = 0; count = f .count; more = f .more; board = b }) written
+      unfolding opened openedBuffer orRefused filledOf
+      listed-opened {f} {written} p q =
+          let n : refusedOpenings b a ≡ 0 = tests ∙ z in
+          (rw n (ap (λ (g : Filled). record { number = 0; count = g .count; more = g .more; board = b }) (p ∙ ap (filledOf (length buffer)) remaining-lent)),
+          rw n (q ∙ ap (λ ps. overFront (pairWords (take (length buffer / 2) ps)) buffer) remaining-lent))
