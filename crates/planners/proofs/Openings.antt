@@ -7,13 +7,13 @@ use mathlib.Core.Option.{Option, none, some}
 use mathlib.Core.List.{List, [], _∷_, List·Memᴰ·head as here, List·Memᴰ·tail as there, List·Memᴰ·cases-cons as cases, List·Memᴰ·not-nil as nowhere}
 use native.Mathlib.Omega.{arith}
 use lib.Dec.{T, ltb, ltb→lt, lt→ltb, not-T, T-not}
-use lib.ListN.{length}
-use Rattle.lists.specs.Lists.{_∈_, some?, head?, range}
+use lib.ListN.{length, take, drop}
+use Rattle.lists.specs.Lists.{_∈_, some?, head?, range, lastOr}
 use Rattle.lists.proofs.Bools.{and-l, and-r, and-i}
 use Rattle.lists.proofs.Members.{none-pass, pass-none, range-in, in-range, head-none, head-some}
 use Rattle.lists.proofs.Order.{Sorted, Sorted·head, sorted-range, sorted-by}
 use Rattle.ways.specs.Ways.{Pair, pair, Ways, isOpen, openingsIn, openingsAfter, askedOn}
-use Rattle.ways.proofs.Laws.{Lawful, Open, After, sooner, beside, openings-in, in-openings, openings-sorted, openings-unique, asked-all, all}
+use Rattle.ways.proofs.Laws.{Lawful, Open, After, sooner, beside, openings-in, in-openings, openings-sorted, openings-unique, rest-in, rest-out, rest-sorted, after-part, asked-all, all}
 use Rattle.tasks.specs.declared.Task.{Task}
 use Rattle.tasks.specs.declared.Submission.{Submission}
 use Rattle.tasks.specs.Tasks.{finish, overlap, meets, inPhase, stamped, booked}
@@ -114,6 +114,24 @@ module _ (W now : ℕ) (ts : List Task) (a : Submission) where
   openings-only ps s f g =
       openings-unique (ways W now ts a) 0 lawful ps (sorted-by Before (After (ways W now ts a)) before-after s)
       (λ q m. opening-open q (f q m)) (λ q o. g q (open-opening q o))
+
+  -- THE OPENINGS AFTER A PAIR are those that come strictly after it, in order
+  pub after-listed : (q p : Place) → p ∈ openingsAfter (ways W now ts a) q → Opening W now ts a p × Before q p
+  after-listed q p m = let k = rest-out (ways W now ts a) 0 lawful q p m in (open-opening p (k .0), after-before q p (k .1))
+
+  pub listed-after : (q p : Place) → Opening W now ts a p → Before q p → p ∈ openingsAfter (ways W now ts a) q
+  listed-after q p o b = rest-in (ways W now ts a) 0 lawful q p (opening-open p o) (before-after q p b)
+
+  pub after-ordered : (q : Place) → Sorted Before (openingsAfter (ways W now ts a) q)
+  after-ordered q = sorted-by (After (ways W now ts a)) Before after-before (rest-sorted (ways W now ts a) 0 lawful q)
+
+  -- after the last of the first k of them: the others
+  pub after-last : (k : ℕ) (q : Place) → openingsAfter (ways W now ts a) (lastOr q (take k (openingsAfter (ways W now ts a) q))) ≡ drop k (openingsAfter (ways W now ts a) q)
+  after-last k q = after-part (ways W now ts a) 0 lawful k q (openingsAfter (ways W now ts a) q) refl
+
+  -- after (0, 0): all
+  pub after-none : openingsAfter (ways W now ts a) (pair 0 0) ≡ openings W now ts a
+  after-none = all (ways W now ts a) 0 lawful
 
   -- ASKING ON from (0, 0), room for k ≥ 1 a time, goes through the whole list and ends
   pub asking-on : (n k : ℕ) → 1 ≤ k → length (openings W now ts a) ≤ n → askedOn (ways W now ts a) n k (pair 0 0) ≡ openings W now ts a

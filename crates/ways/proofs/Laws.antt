@@ -102,11 +102,11 @@ module _ {P A : Type 0} (w : Ways P A) (low : P) (o : Lawful w low) where
   unfolding openingsAfter
   rest-out p r m = let k = keep-in (after w p) (openingsIn w) m in (openings-in w (k .0), after-out w p r (k .1))
 
-  rest-in : (p r : Pair P) → Open w r → After w p r → r ∈ openingsAfter w p
+  pub rest-in : (p r : Pair P) → Open w r → After w p r → r ∈ openingsAfter w p
   unfolding openingsAfter
   rest-in p r k l = in-keep (after w p) (in-openings w r k) (after-in w p r l)
 
-  rest-sorted : (p : Pair P) → Sorted (After w) (openingsAfter w p)
+  pub rest-sorted : (p : Pair P) → Sorted (After w) (openingsAfter w p)
   unfolding openingsAfter
   rest-sorted p = sorted-keep (After w) (after w p) openings-sorted
 
@@ -243,7 +243,7 @@ module _ {P A : Type 0} (w : Ways P A) (low : P) (o : Lawful w low) where
           rw (e, n)
 
   -- after the last of the first k openings: the others
-  after-part : (k : ℕ) (p : Pair P) (ps : List (Pair P)) → openingsAfter w p ≡ ps → openingsAfter w (lastOr p (take k ps)) ≡ drop k ps
+  pub after-part : (k : ℕ) (p : Pair P) (ps : List (Pair P)) → openingsAfter w p ≡ ps → openingsAfter w (lastOr p (take k ps)) ≡ drop k ps
   unfolding lastOr
   after-part zero p ps e = e
   after-part (suc k) p [] e = e
