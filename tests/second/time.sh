@@ -29,7 +29,7 @@ for profile in paper wide crowded; do
 done
 echo "machine: $(uname -m), $(sed -n 's/^model name[^:]*: //p' /proc/cpuinfo | head -1)"
 python3 - "$work" "$events" ${RUN:-} "$plan" <<'P'
-import os, sys
+import fcntl, os, sys, termios, time
 
 work, events, plan = sys.argv[1], int(sys.argv[2]), sys.argv[3:]
 baseline = [work + "/baseline_plan"]
@@ -41,18 +41,36 @@ def once(command, recording):
         _, status, used = os.wait4(child, 0)
     if os.waitstatus_to_exitcode(status) < 0:
         sys.exit(f"time.sh: {command[0]} was ended by a signal")
-    return used.ru_utime + used.ru_stime, used.ru_maxrss
+    return used.ru_utime + used.ru_stime
+
+def peak(command, recording):
+    """VmHWM of the program once it has eaten the recording and waits for more (ru_maxrss would count the parent's memory)."""
+    theirs, ours = os.pipe()
+    actions = [(os.POSIX_SPAWN_DUP2, theirs, 0), (os.POSIX_SPAWN_CLOSE, ours), (os.POSIX_SPAWN_OPEN, 1, "/dev/null", os.O_WRONLY, 0)]
+    child = os.posix_spawnp(command[0], command, os.environ, file_actions=actions)
+    os.close(theirs)
+    with open(recording, "rb") as f, open(ours, "wb", buffering=0) as pipe:
+        while block := f.read(1 << 16):
+            pipe.write(block)
+        for _ in range(500):
+            time.sleep(0.01)
+            if int.from_bytes(fcntl.ioctl(ours, termios.FIONREAD, bytes(4)), sys.byteorder) == 0:
+                break
+        time.sleep(0.05)
+        with open(f"/proc/{child}/status") as status:
+            kib = next((int(line.split()[1]) for line in status if line.startswith("VmHWM")), 0)
+    os.wait4(child, 0)
+    return kib
 
 print("recording      plan ms  baseline ms  ratio  plan events/s  peak memory of plan KiB")
 for name, profile in (("paper 96 x 64", "paper"), ("W 256", "wide"), ("64 live", "crowded")):
-    ours, theirs, peak = [], [], 0
+    ours, theirs = [], []
     for _ in range(5):
-        seconds, memory = once(plan, f"{work}/{profile}")
-        ours.append(seconds)
-        peak = max(peak, memory)
-        theirs.append(once(baseline, f"{work}/{profile}")[0])
+        ours.append(once(plan, f"{work}/{profile}"))
+        theirs.append(once(baseline, f"{work}/{profile}"))
     a, b = min(ours), min(theirs)
     rate = f"{events / a:14.0f}" if a > 0 else "             -"
     ratio = f"{a / b:6.2f}" if b > 0 else "     -"
-    print(f"{name:13} {1000 * a:8.1f} {1000 * b:12.1f} {ratio} {rate} {peak:24}")
+    memory = peak(plan, f"{work}/{profile}")
+    print(f"{name:13} {1000 * a:8.1f} {1000 * b:12.1f} {ratio} {rate} {memory:24}")
 P
