@@ -406,6 +406,12 @@ impl Maker {
             era.e = (1, (room / 8).clamp(2, LONGEST));
             era.laxity = (0, (3 * era.e.1).min(room));
             era.pace = (0, (era.e.1 / 3).max(1));
+            if self.dice.percent(35) {
+                // many of them at once, far ahead of now
+                era.w = (1, 3);
+                era.laxity = (0, (20 * era.e.1).min(room));
+                era.pace = (0, (era.e.1 / 12).max(1));
+            }
             self.emit(Event::Clock { instant: END_OF_TIME - room });
         }
         era

@@ -610,6 +610,9 @@ impl Board {
             }
         }
         if small {
+            if let Some(difference) = self.lookups_differ(self.sheet_end(ask)) {
+                return Some(difference);
+            }
             let slow = self.openings_by_sheet(ask);
             let (quick, more) = self.openings(ask, (0, 0), usize::MAX).unwrap();
             if slow != quick || more {
@@ -624,6 +627,36 @@ impl Board {
                     }
                 }
             }
+        }
+        None
+    }
+
+    /// Compares busy columns and horizon list with what the sheet up to `end` shows; says what differs.
+    fn lookups_differ(&self, end: u64) -> Option<String> {
+        let sheet = Sheet::draw(self, end);
+        for t in self.now..end + 2 {
+            let drawn = (1..=self.w).filter(|c| !sheet.free(t, *c)).count() as u64;
+            let want = if t > END_OF_TIME { Err(12) } else { Ok(drawn) };
+            if self.busy(t) != want {
+                return Some(format!("busy at {t}: {:?}, sheet {want:?}, {self:?}", self.busy(t)));
+            }
+        }
+        // all columns by release and column, then neighbours of equal release put together
+        let mut columns: Vec<(u64, u64)> = Vec::new();
+        for c in 1..=self.w {
+            let held = (self.now..end).filter(|t| !sheet.free(*t, c)).max();
+            columns.push((held.map_or(self.now, |t| t + 1), c));
+        }
+        columns.sort_unstable();
+        let mut rows: Vec<(u64, u64, u64)> = Vec::new();
+        for (release, c) in columns {
+            match rows.last_mut() {
+                Some(row) if row.2 == release && row.1 + 1 == c => row.1 = c,
+                _ => rows.push((c, c, release)),
+            }
+        }
+        if rows != self.horizon() {
+            return Some(format!("horizon: {:?}, sheet {rows:?}, {self:?}", self.horizon()));
         }
         None
     }
