@@ -14,7 +14,7 @@
 # Builds second and generate with rustc -O in a temporary folder, runs the self-test, then goes through the profiles by
 # turns. Of three recordings one comes as a file, one through a pipe, one through a pipe in pieces of 37 bytes. Ends with 0
 # if all is equal; with 1 at the first difference: it prints the first line that differs and keeps recording and outputs
-# (tests/second/compare.sh says where); with 2 for a wrong call.
+# in the temporary folder that it names; with 2 for a wrong call or if the second program itself fails.
 set -u
 here=$(cd "$(dirname "$0")" && pwd -P)
 usage() { sed -n '2,12p' "$0" >&2; exit 2; }
