@@ -1,0 +1,696 @@
+//! second: the independent second program. It reads event records on standard input and prints what `plan` has to print by
+//! document 01, so that the two can be compared byte for byte (`compare.sh`). Written from document 01 alone; the rules
+//! stand in `model.rs`. Build: `rustc -O --edition 2021 tests/second/second.rs -o second` (std only).
+//!
+//!     second [--check] [--counts]              the lines of `plan`
+//!     second horizon                           these five read the records in silence, then answer about the board as it
+//!     second busy T                            stands: first line `answer N` with 01's number, rows only if N is 0
+//!     second openings W H E D [START COLUMN [MOST]]      rows `start column` after the pair (0 0), at most MOST (1000),
+//!                                              then `more` or `end`
+//!     second board                             row `W H now`, then `slot id w h e d column start finish phase` by slot
+//!     second stamp T                           as board, with the phases at T
+//!     second --self-test                       the listing and the cases 1 to 12 of document 01; ends with 1 if one fails
+//!
+//! --check   after each event: the board is sound by the whole definition, no live task has moved, and a submission is
+//!           answered the same by the lists and, where the window is small, square by square. Ends with 3 if not.
+//! --counts  on standard error: how often each answer came, by kind and planner, and how many placements tell right
+//!           methods from slips.
+//! --limit N stops after N events instead of 1,000,000,000 (to try the stop itself).
+//!
+//! Where 01 is open: a recording that ends with 15 or 16 is answered by the five questions for the board as it stands then.
+
+mod model;
+
+use model::{body_length, Answer, Ask, Board, Event, Telling};
+use std::io::{self, ErrorKind, Read, Write};
+use std::process::exit;
+
+const MOST_EVENTS: u64 = 1_000_000_000;
+
+/// What comes next in a recording.
+enum Next {
+    End,
+    Event(Event),
+    CutShort(u8),
+    Unknown(u8),
+}
+
+/// Records out of a stream, whatever the pieces in which its bytes arrive.
+struct Records<R: Read> {
+    from: R,
+    bytes: Vec<u8>,
+    at: usize,
+    filled: usize,
+}
+
+impl<R: Read> Records<R> {
+    fn new(from: R) -> Self {
+        Records { from, bytes: vec![0; 1 << 16], at: 0, filled: 0 }
+    }
+
+    /// Tries to have `want` bytes at hand. `idle` is called before the stream is asked for more.
+    fn have(&mut self, want: usize, idle: &mut dyn FnMut()) -> bool {
+        while self.filled - self.at < want {
+            self.bytes.copy_within(self.at..self.filled, 0);
+            self.filled -= self.at;
+            self.at = 0;
+            idle();
+            match self.from.read(&mut self.bytes[self.filled..]) {
+                Ok(0) => return false,
+                Ok(n) => self.filled += n,
+                Err(e) if e.kind() == ErrorKind::Interrupted => {}
+                Err(e) => stop(&format!("standard input: {e}")),
+            }
+        }
+        true
+    }
+
+    fn next(&mut self, idle: &mut dyn FnMut()) -> Next {
+        if !self.have(1, idle) {
+            return Next::End;
+        }
+        let kind = self.bytes[self.at];
+        let Some(length) = body_length(kind) else { return Next::Unknown(kind) };
+        if !self.have(1 + length, idle) {
+            return Next::CutShort(kind);
+        }
+        let event = Event::parse(kind, &self.bytes[self.at + 1..self.at + 1 + length]);
+        self.at += 1 + length;
+        Next::Event(event)
+    }
+}
+
+fn stop(message: &str) -> ! {
+    eprintln!("second: {message}");
+    exit(2)
+}
+
+#[derive(Default)]
+struct Counts {
+    /// by answer number: submissions to planners 0 to 3, to other planners, then the kinds 1, 3, 4
+    answers: [[u64; 8]; 18],
+    telling: [Telling; 4],
+    /// by the number of live tasks at a submission
+    live: Vec<u64>,
+    ends: [u64; 18],
+}
+
+impl Counts {
+    fn add(&mut self, event: &Event, answer: &Answer) {
+        let place = match event {
+            Event::Submit { planner, .. } => (*planner).min(4) as usize,
+            Event::NewBoard { .. } => 5,
+            Event::Clock { .. } => 6,
+            Event::Withdraw { .. } => 7,
+        };
+        self.answers[answer.number as usize][place] += 1;
+    }
+
+    fn print(&self) {
+        eprintln!("answer  reference    horizon   stuffing       full      other  new board      clock   withdraw");
+        for (number, row) in self.answers.iter().enumerate() {
+            if row.iter().any(|n| *n > 0) {
+                let cells: Vec<String> = row.iter().map(|n| format!("{n:>10}")).collect();
+                eprintln!("{number:>6} {}", cells.join(" "));
+            }
+            if self.ends[number] > 0 {
+                eprintln!("{number:>6} {:>10} (end of the recording)", self.ends[number]);
+            }
+        }
+        let share = |p: usize| {
+            let all = self.answers[0][p] + self.answers[10][p];
+            if all == 0 { "-".to_string() } else { format!("{}%", 100 * self.answers[0][p] / all) }
+        };
+        eprintln!("places among places and rejections: {} {} {} {}", share(0), share(1), share(2), share(3));
+        eprintln!("planner   later start   tie   not leftmost   not first tried   inside a run   horizon/stuffing differ   stuffing/full differ   only horizon   only stuffing");
+        for (p, t) in self.telling.iter().enumerate() {
+            eprintln!(
+                "{p:>7} {:>13} {:>5} {:>14} {:>17} {:>14} {:>25} {:>22} {:>14} {:>15}",
+                t.later_start, t.tie, t.not_leftmost, t.not_first_tried, t.inside_run, t.horizon_stuffing, t.stuffing_full, t.only_horizon, t.only_stuffing
+            );
+        }
+        let submissions: u64 = self.live.iter().sum();
+        if submissions > 0 {
+            let mean = self.live.iter().enumerate().map(|(i, n)| i as u64 * n).sum::<u64>() as f64 / submissions as f64;
+            eprintln!("live tasks at a submission: mean {mean:.1}, at 64: {} of {submissions}", self.live[64]);
+        }
+    }
+}
+
+/// Number and space, or newline, at the end of a row.
+fn put(out: &mut Vec<u8>, mut n: u64, then: u8) {
+    let mut digits = [0u8; 20];
+    let mut i = digits.len();
+    loop {
+        i -= 1;
+        digits[i] = b'0' + (n % 10) as u8;
+        n /= 10;
+        if n == 0 {
+            break;
+        }
+    }
+    out.extend_from_slice(&digits[i..]);
+    out.push(then);
+}
+
+struct Options {
+    check: bool,
+    counts: bool,
+    limit: u64,
+}
+
+/// Runs a recording from the board of zeros; each answer goes to `line` (number, kind, answer). Gives the board it ends with.
+fn run<R: Read>(from: R, options: &Options, counts: &mut Counts, line: &mut dyn FnMut(u64, u8, &Answer), idle: &mut dyn FnMut()) -> Board {
+    let mut records = Records::new(from);
+    let mut board = Board::zeros();
+    let nothing = |number| Answer { number, column: 0, start: 0, finish: 0 };
+    for number in 1..=options.limit {
+        match records.next(idle) {
+            Next::End => break,
+            Next::CutShort(kind) => {
+                counts.ends[15] += 1;
+                line(number, kind, &nothing(15));
+                break;
+            }
+            Next::Unknown(kind) => {
+                counts.ends[16] += 1;
+                line(number, kind, &nothing(16));
+                break;
+            }
+            Next::Event(event) => {
+                if options.counts {
+                    if let Event::Submit { planner, ask } = event {
+                        counts.live.resize(65, 0);
+                        counts.live[board.tasks.len()] += 1;
+                        if planner <= 3 {
+                            let told = board.telling(planner, &ask);
+                            let sum = &mut counts.telling[planner as usize];
+                            sum.later_start += told.later_start;
+                            sum.tie += told.tie;
+                            sum.not_leftmost += told.not_leftmost;
+                            sum.not_first_tried += told.not_first_tried;
+                            sum.inside_run += told.inside_run;
+                            sum.horizon_stuffing += told.horizon_stuffing;
+                            sum.stuffing_full += told.stuffing_full;
+                            sum.only_horizon += told.only_horizon;
+                            sum.only_stuffing += told.only_stuffing;
+                        }
+                    }
+                }
+                let before = if options.check { Some(board.clone()) } else { None };
+                let answer = board.apply(&event);
+                if let Some(before) = before {
+                    if let Some(fault) = check(&before, &event, &answer, &board) {
+                        eprintln!("second: check failed at event {number} ({event:?}, answer {answer:?}): {fault}");
+                        exit(3);
+                    }
+                }
+                counts.add(&event, &answer);
+                line(number, event.kind(), &answer);
+            }
+        }
+    }
+    board
+}
+
+/// What is wrong with a step, by 01's sentences on what follows.
+fn check(before: &Board, event: &Event, answer: &Answer, after: &Board) -> Option<String> {
+    if let Event::Submit { ask, .. } = event {
+        if let Some(difference) = before.methods_differ(ask) {
+            return Some(difference);
+        }
+    }
+    if after.sound() {
+        if let Some(fault) = after.fault() {
+            return Some(fault);
+        }
+    }
+    if answer.number != 0 && answer.number != 2 && before != after {
+        return Some("a refusal or rejection changed the board".into());
+    }
+    if let Event::NewBoard { w, h } = event {
+        let fresh = after.tasks.is_empty() && after.now == 0 && after.free.len() == 64;
+        let size = if answer.number == 0 { (*w, *h) } else { (0, 0) };
+        return if fresh && (after.w, after.h) == size { None } else { Some("new board is not as asked".into()) };
+    }
+    if (before.w, before.h) != (after.w, after.h) {
+        return Some("the board changed its size".into());
+    }
+    for old in &before.tasks {
+        let left = match event {
+            Event::Clock { .. } => old.finish() <= after.now,
+            Event::Withdraw { id } => answer.number == 0 && *id == old.id,
+            _ => false,
+        };
+        if left == after.tasks.contains(old) {
+            return Some(format!("moved, lost or kept: {old:?}"));
+        }
+    }
+    let newcomers: Vec<_> = after.tasks.iter().filter(|t| !before.tasks.contains(t)).collect();
+    match event {
+        Event::Submit { ask, .. } if answer.number == 0 => {
+            let lowest = (1..=64).find(|s| before.tasks.iter().all(|t| t.slot != *s));
+            let [new] = newcomers[..] else { return Some("not one new task".into()) };
+            let as_asked = (new.id, new.w, new.h, new.e, new.d) == (ask.id, ask.w, ask.h, ask.e, ask.d);
+            let as_answered = (new.column, new.start, new.finish()) == (answer.column, answer.start, answer.finish);
+            if !as_asked || !as_answered || Some(new.slot) != lowest || before.now != after.now {
+                return Some(format!("booked otherwise: {new:?}"));
+            }
+        }
+        _ => {
+            if !newcomers.is_empty() {
+                return Some(format!("out of nothing: {newcomers:?}"));
+            }
+        }
+    }
+    None
+}
+
+// ---- the programs ----------------------------------------------------------------------------------------------------
+
+const HEADER: &[u8] = b"event kind answer column start finish\n";
+
+fn row(out: &mut Vec<u8>, number: u64, kind: u8, answer: &Answer) {
+    put(out, number, b' ');
+    put(out, kind as u64, b' ');
+    put(out, answer.number, b' ');
+    put(out, answer.column, b' ');
+    put(out, answer.start, b' ');
+    put(out, answer.finish, b'\n');
+}
+
+fn send(bytes: &mut Vec<u8>) {
+    let mut out = io::stdout().lock();
+    if let Err(e) = out.write_all(bytes).and_then(|_| out.flush()) {
+        stop(&format!("standard output: {e}"));
+    }
+    bytes.clear();
+}
+
+fn plan(options: &Options) {
+    let out = std::cell::RefCell::new(HEADER.to_vec());
+    let mut counts = Counts::default();
+    run(
+        io::stdin().lock(),
+        options,
+        &mut counts,
+        &mut |number, kind, answer| {
+            let mut out = out.borrow_mut();
+            row(&mut out, number, kind, answer);
+            if out.len() > 1 << 16 {
+                send(&mut out);
+            }
+        },
+        &mut || send(&mut out.borrow_mut()),
+    );
+    send(&mut out.borrow_mut());
+    if options.counts {
+        counts.print();
+    }
+}
+
+#[derive(Debug)]
+enum Question {
+    Horizon,
+    Busy(u64),
+    Openings { ask: Ask, after: (u64, u64), most: usize },
+    Board,
+    Stamp(u64),
+}
+
+fn told(board: &Board, question: &Question) -> String {
+    let mut text = String::new();
+    let tasks = |text: &mut String, t: u64| {
+        *text += &format!("{} {} {}\n", board.w, board.h, board.now);
+        let mut by_slot: Vec<_> = board.tasks.iter().collect();
+        by_slot.sort_by_key(|k| k.slot);
+        for k in by_slot {
+            let phase = k.phase(t);
+            *text += &format!("{} {} {} {} {} {} {} {} {} {phase}\n", k.slot, k.id, k.w, k.h, k.e, k.d, k.column, k.start, k.finish());
+        }
+    };
+    let number = match question {
+        _ if !board.sound() => 1,
+        Question::Horizon => {
+            for (first, last, release) in board.horizon() {
+                text += &format!("{first} {last} {release}\n");
+            }
+            0
+        }
+        Question::Busy(t) => match board.busy(*t) {
+            Ok(n) => {
+                text += &format!("{n}\n");
+                0
+            }
+            Err(number) => number,
+        },
+        Question::Openings { ask, after, most } => match board.openings(ask, *after, *most) {
+            Ok((pairs, more)) => {
+                for (s, c) in pairs {
+                    text += &format!("{s} {c}\n");
+                }
+                text += if more { "more\n" } else { "end\n" };
+                0
+            }
+            Err(number) => number,
+        },
+        Question::Board => {
+            tasks(&mut text, board.now);
+            0
+        }
+        Question::Stamp(t) => {
+            tasks(&mut text, *t);
+            0
+        }
+    };
+    format!("answer {number}\n{text}")
+}
+
+fn number(word: &str, what: &str, most: u64) -> u64 {
+    match word.parse::<u64>() {
+        Ok(n) if n <= most => n,
+        _ => stop(&format!("{what} is to be a number from 0 to {most}, not '{word}'")),
+    }
+}
+
+const USAGE: &str = "usage: second [--check] [--counts] [--limit N] <records
+       second [--check] horizon | busy T | openings W H E D [START COLUMN [MOST]] | board | stamp T <records
+       second --self-test";
+
+fn main() {
+    let mut options = Options { check: false, counts: false, limit: MOST_EVENTS };
+    let mut words: Vec<String> = std::env::args().skip(1).collect();
+    let wide = u32::MAX as u64;
+    while words.first().is_some_and(|w| w.starts_with("--")) {
+        let option = words.remove(0);
+        match option.as_str() {
+            "--check" => options.check = true,
+            "--counts" => options.counts = true,
+            "--limit" if !words.is_empty() => options.limit = number(&words.remove(0), "the limit", MOST_EVENTS),
+            "--self-test" => exit(self_test()),
+            _ => stop(USAGE),
+        }
+    }
+    let words: Vec<&str> = words.iter().map(|w| w.as_str()).collect();
+    let question = match words[..] {
+        [] => return plan(&options),
+        ["horizon"] => Question::Horizon,
+        ["busy", t] => Question::Busy(number(t, "T", wide)),
+        ["board"] => Question::Board,
+        ["stamp", t] => Question::Stamp(number(t, "T", wide)),
+        ["openings", w, h, e, d, ref rest @ ..] if matches!(rest.len(), 0 | 2 | 3) => Question::Openings {
+            ask: Ask { id: 0, w: number(w, "W", wide), h: number(h, "H", wide), e: number(e, "E", wide), d: number(d, "D", wide) },
+            after: match rest {
+                [start, column, ..] => (number(start, "START", wide), number(column, "COLUMN", wide)),
+                _ => (0, 0),
+            },
+            most: rest.get(2).map_or(1000, |m| number(m, "MOST", wide) as usize),
+        },
+        _ => stop(USAGE),
+    };
+    let mut counts = Counts::default();
+    let board = run(io::stdin().lock(), &options, &mut counts, &mut |_, _, _| {}, &mut || {});
+    send(&mut told(&board, &question).into_bytes());
+}
+
+// ---- self-test: the listing and the cases of document 01 -------------------------------------------------------------
+
+/// Table 1 of the source: a, e, d, w, h, on 10 x 6.
+const TABLE_1: [(u64, u64, u64, u64, u64); 7] =
+    [(0, 20, 30, 3, 3), (0, 3, 10, 7, 5), (1, 12, 15, 3, 5), (1, 3, 10, 2, 2), (2, 2, 10, 3, 4), (2, 3, 20, 5, 1), (3, 2, 20, 3, 2)];
+
+const REFERENCE: u64 = 0;
+const HORIZON: u64 = 1;
+const STUFFING: u64 = 2;
+const FULL: u64 = 3;
+
+fn board(w: u64, h: u64) -> Event {
+    Event::NewBoard { w, h }
+}
+/// A submission of height 1.
+fn submit(planner: u64, id: u64, w: u64, e: u64, d: u64) -> Event {
+    Event::Submit { planner, ask: Ask { id, w, h: 1, e, d } }
+}
+fn clock(instant: u64) -> Event {
+    Event::Clock { instant }
+}
+fn withdraw(id: u64) -> Event {
+    Event::Withdraw { id }
+}
+
+fn recorded(events: &[Event]) -> Vec<u8> {
+    let mut bytes = Vec::new();
+    for e in events {
+        e.write(&mut bytes);
+    }
+    bytes
+}
+
+/// What `second` prints for these bytes, and the board after. Read in one piece and then byte by byte.
+fn printed_bytes(bytes: &[u8]) -> (String, Board) {
+    struct Pieces<'a>(&'a [u8]);
+    impl Read for Pieces<'_> {
+        fn read(&mut self, buffer: &mut [u8]) -> io::Result<usize> {
+            let n = self.0.len().min(1);
+            buffer[..n].copy_from_slice(&self.0[..n]);
+            self.0 = &self.0[n..];
+            Ok(n)
+        }
+    }
+    let options = Options { check: true, counts: false, limit: MOST_EVENTS };
+    let mut out = HEADER.to_vec();
+    let after = run(bytes, &options, &mut Counts::default(), &mut |n, k, a| row(&mut out, n, k, a), &mut || {});
+    let mut again = HEADER.to_vec();
+    let same = run(Pieces(bytes), &options, &mut Counts::default(), &mut |n, k, a| row(&mut again, n, k, a), &mut || {});
+    assert!(out == again && after == same, "bytes that arrive one by one are read otherwise");
+    (String::from_utf8(out).unwrap(), after)
+}
+
+/// The lines after the header, without event number and kind: "answer column start finish" each.
+fn answers(events: &[Event]) -> Vec<String> {
+    let (text, _) = printed_bytes(&recorded(events));
+    text.lines().skip(1).map(|l| l.splitn(3, ' ').nth(2).unwrap().to_string()).collect()
+}
+
+fn after(events: &[Event]) -> Board {
+    printed_bytes(&recorded(events)).1
+}
+
+/// The answers of the submissions only, as (column,start) or the number.
+fn places(events: &[Event]) -> String {
+    let lines = answers(events);
+    let mut words = Vec::new();
+    for (e, line) in events.iter().zip(&lines) {
+        if let Event::Submit { .. } = e {
+            let n: Vec<u64> = line.split(' ').map(|w| w.parse().unwrap()).collect();
+            words.push(if n[0] == 0 { format!("({},{})", n[1], n[2]) } else { format!("{}", n[0]) });
+        }
+    }
+    assert_eq!(lines.len(), events.len());
+    words.join(" ")
+}
+
+/// Table 1 played by one planner, its tasks submitted as they arrive; the last deadline may be another.
+fn table_1(planner: u64, last_by: u64, last_deadline: u64) -> Vec<Event> {
+    let mut events = vec![board(10, 6)];
+    let mut now = 0;
+    for (i, (a, e, d, w, h)) in TABLE_1.iter().enumerate() {
+        if *a > now {
+            now = *a;
+            events.push(clock(now));
+        }
+        let (p, d) = if i == 6 { (last_by, last_deadline) } else { (planner, *d) };
+        events.push(Event::Submit { planner: p, ask: Ask { id: i as u64 + 1, w: *w, h: *h, e: *e, d } });
+    }
+    events
+}
+
+fn self_test() -> i32 {
+    let mut wrong = 0;
+    let mut right = 0;
+    let mut same = |name: &str, got: String, want: &str| {
+        if got == want {
+            right += 1;
+        } else {
+            wrong += 1;
+            eprintln!("{name}:\n  got  {got:?}\n  want {want:?}");
+        }
+    };
+
+    // the listing
+    let listing = [
+        board(4, 1),
+        submit(STUFFING, 1, 2, 2, 9),
+        submit(STUFFING, 2, 3, 4, 9),
+        submit(STUFFING, 3, 1, 5, 5),
+        submit(FULL, 3, 1, 5, 5),
+        clock(2),
+        withdraw(2),
+    ];
+    let bytes = recorded(&listing);
+    let text = "event kind answer column start finish\n1 1 0 0 0 0\n2 2 0 1 0 2\n3 2 0 1 2 6\n4 2 10 0 0 0\n5 2 0 4 0 5\n6 3 0 0 0 0\n7 4 14 0 0 0\n";
+    same("listing", printed_bytes(&bytes).0, text);
+    same("record lengths", bytes.len().to_string(), "87"); // 5 + 4 x 18 + 5 + 5
+    same("record bytes", format!("{:?}", &bytes[..23]), "[1, 4, 0, 1, 0, 2, 2, 1, 0, 0, 0, 2, 0, 1, 0, 2, 0, 0, 0, 9, 0, 0, 0]");
+
+    // cases 1 to 3
+    same("case 1", places(&table_1(HORIZON, HORIZON, 20)), "(1,0) (4,0) (4,3) (7,3) (7,6) (4,15) (4,18)");
+    same("case 2, Stuffing", places(&table_1(STUFFING, STUFFING, 20)), "(1,0) (4,0) (4,3) (7,3) (7,6) (4,15) (7,8)");
+    same("case 2, Full", places(&table_1(FULL, FULL, 20)), "(1,0) (4,0) (4,3) (7,3) (7,6) (4,15) (7,8)");
+    same("case 3", places(&table_1(REFERENCE, REFERENCE, 20)), "(1,0) (4,0) 10 10 10 10 (4,3)");
+
+    // case 4
+    let b = after(&table_1(HORIZON, HORIZON, 20));
+    same("case 4", told(&b, &Question::Horizon), "answer 0\n10 10 3\n9 9 8\n7 8 18\n1 6 20\n");
+    let busy: Vec<String> = [2, 3, 8, 15, 20, 2_000_000_000, 2_000_000_001].iter().map(|t| told(&b, &Question::Busy(*t)).replace('\n', " ")).collect();
+    same("busy after case 1", busy.concat(), "answer 11 answer 0 8 answer 0 6 answer 0 8 answer 0 0 answer 0 0 answer 12 ");
+
+    // case 5: Horizon or Stuffing for the first six (the same places), then task 7 by each
+    for first in [HORIZON, STUFFING] {
+        let last = |by: u64, d: u64| places(&table_1(first, by, d)).rsplit(' ').next().unwrap().to_string();
+        same("case 5, d 10", format!("{} {}", last(HORIZON, 10), last(STUFFING, 10)), "10 (7,8)");
+        same("case 5, d 9", format!("{} {} {}", last(HORIZON, 9), last(STUFFING, 9), last(FULL, 9)), "10 10 10");
+    }
+
+    // case 6
+    for (planner, want) in [(REFERENCE, "10"), (STUFFING, "10"), (HORIZON, "(4,0)"), (FULL, "(4,0)")] {
+        let mut events = listing[..3].to_vec();
+        events.push(submit(planner, 3, 1, 5, 5));
+        same("case 6", places(&events), &format!("(1,0) (1,2) {want}"));
+    }
+
+    // case 7
+    let events = [board(4, 1), listing[1], listing[2], withdraw(2), submit(STUFFING, 3, 1, 5, 5)];
+    same("case 7", places(&events), "(1,0) (1,2) (3,0)");
+
+    // case 8
+    let events = [board(5, 1), submit(REFERENCE, 1, 2, 1, 9), submit(REFERENCE, 2, 1, 9, 9), clock(1), submit(STUFFING, 3, 2, 1, 5)];
+    same("case 8", places(&events), "(1,0) (3,0) (1,1)");
+
+    // case 9
+    let b = after(&[board(3, 1), submit(FULL, 1, 1, 2, 9)]);
+    let ask = Ask { id: 0, w: 2, h: 1, e: 1, d: 3 };
+    let open = |after, most| told(&b, &Question::Openings { ask, after, most });
+    same("case 9, all", open((0, 0), 1000), "answer 0\n0 2\n1 2\n2 1\n2 2\nend\n");
+    same("case 9, six words", open((0, 0), 3), "answer 0\n0 2\n1 2\n2 1\nmore\n");
+    same("case 9, after", open((2, 1), 3), "answer 0\n2 2\nend\n");
+    same("case 9, none asked", open((0, 0), 0), "answer 0\nmore\n");
+    same("case 9, past the last", open((2, 2), 3), "answer 0\nend\n");
+    same("case 9, far past", open((4_294_967_295, 4_294_967_295), 3), "answer 0\nend\n");
+    let refused = |w, h, e, d| told(&b, &Question::Openings { ask: Ask { id: 0, w, h, e, d }, after: (0, 0), most: 9 });
+    let all = [refused(4, 1, 0, 0), refused(1, 2, 1, 3), refused(1, 1, 0, 3), refused(1, 1, 3, 2), told(&Board::zeros(), &Question::Openings { ask, after: (0, 0), most: 9 })];
+    same("openings refused", all.concat(), "answer 5\nanswer 5\nanswer 6\nanswer 8\nanswer 1\n");
+    let far = Ask { id: 0, w: 3, h: 1, e: 1_000_000, d: 2_000_000_000 };
+    same(
+        "openings over 2,000,000,000 ticks",
+        told(&b, &Question::Openings { ask: far, after: (1_998_999_999, 1), most: 9 }) + &told(&b, &Question::Openings { ask: far, after: (0, 0), most: 2 }),
+        "answer 0\n1999000000 1\nend\nanswer 0\n2 1\n3 1\nmore\n",
+    );
+
+    // case 10
+    for planner in 0..4 {
+        let events = [board(7, 3), submit(planner, 1, 7, 5, 5)];
+        same("case 10, w = W, d = now + e", places(&events), "(1,0)");
+        same("case 10, w = W + 1", places(&[board(7, 3), submit(planner, 1, 8, 5, 5)]), "5");
+        same("case 10, d one less", places(&[board(7, 3), clock(100), submit(planner, 1, 7, 5, 104), submit(planner, 1, 7, 5, 105)]), "8 (1,100)");
+    }
+
+    // case 11: 64 one-column tasks; id 65 as wide as the board has no place; the sixth ends first
+    for planner in 0..4 {
+        let mut events = vec![board(64, 1)];
+        for id in 1..=64 {
+            events.push(submit(planner, id, 1, if id == 6 { 5 } else { 50 }, 50));
+        }
+        events.extend([submit(planner, 65, 64, 10, 10), submit(planner, 66, 1, 10, 20), clock(5), submit(planner, 67, 1, 10, 20), submit(planner, 68, 1, 1, 50)]);
+        let text = places(&events);
+        let last: Vec<&str> = text.split(' ').skip(64).collect();
+        same("case 11", last.join(" "), "9 9 (6,5) 9");
+        let after = told(&after(&events), &Question::Board);
+        let slots: Vec<String> = after.lines().skip(2).map(|l| l.split(' ').take(2).collect::<Vec<_>>().join(":")).collect();
+        let want: Vec<String> = (1..=64).map(|s| format!("{s}:{}", if s == 6 { 67 } else { s })).collect();
+        same("case 11, slots", slots.join(" "), &want.join(" "));
+    }
+
+    // case 12
+    let start = [board(4, 2), submit(FULL, 1, 4, 5, 9), submit(FULL, 2, 4, 4, 9), clock(3)];
+    let mut again = start.to_vec();
+    again.extend([clock(3), clock(2)]);
+    same("case 12", answers(&again)[4..].join(","), "0 0 0 0,11 0 0 0");
+    same("case 12, nothing changes", told(&after(&again), &Question::Board), &told(&after(&start), &Question::Board));
+    same("case 12, board", told(&after(&start), &Question::Board), "answer 0\n4 2 3\n1 1 4 1 5 9 1 0 5 running\n2 2 4 1 4 9 1 5 9 waiting\n");
+    same("stamp at 5", told(&after(&start), &Question::Stamp(5)), "answer 0\n4 2 3\n1 1 4 1 5 9 1 0 5 ended\n2 2 4 1 4 9 1 5 9 running\n");
+    same("stamp at 0", told(&after(&start), &Question::Stamp(0)), "answer 0\n4 2 3\n1 1 4 1 5 9 1 0 5 running\n2 2 4 1 4 9 1 5 9 waiting\n");
+
+    // refusals: each number, and that the lowest wins
+    let ask = |id, w, h, e, d| Ask { id, w, h, e, d };
+    let one = |planner: u64, a: Ask| answers(&[board(4, 2), submit(FULL, 7, 4, 5, 9), clock(3), Event::Submit { planner, ask: a }])[3].clone();
+    for (planner, a, want) in [
+        (4, ask(0, 0, 0, 0, 0), 3),
+        (255, ask(8, 1, 1, 1, 9), 3),
+        (3, ask(0, 0, 0, 0, 0), 4),
+        (3, ask(7, 0, 0, 0, 0), 5),
+        (3, ask(8, 5, 1, 1, 20), 5),
+        (3, ask(8, 1, 3, 1, 20), 5),
+        (3, ask(8, 1, 0, 1, 20), 5),
+        (3, ask(8, 65535, 1, 1, 20), 5),
+        (3, ask(7, 1, 1, 0, 0), 6),
+        (3, ask(8, 1, 1, 1_000_001, 20), 6),
+        (3, ask(8, 1, 1, 1, 2_000_000_001), 6),
+        (3, ask(8, 1, 1, 4_294_967_295, 4_294_967_295), 6),
+        (3, ask(7, 1, 1, 1, 0), 7),
+        (3, ask(8, 1, 1, 1, 3), 8),
+        (3, ask(8, 4, 1, 1, 4), 10),
+        (0, ask(8, 4, 1, 1, 9), 10),
+    ] {
+        same(&format!("refusal {a:?}"), one(planner, a), &format!("{want} 0 0 0"));
+    }
+    same("the last id, the last instant", answers(&[board(256, 1024), clock(2_000_000_000 - 1_000_000), Event::Submit { planner: 0, ask: ask(4_294_967_295, 256, 1024, 1_000_000, 2_000_000_000) }, withdraw(4_294_967_295), clock(2_000_000_000), withdraw(4_294_967_295), withdraw(0), clock(2_000_000_001), clock(1_999_999_999)])[1..].join(","), "0 0 0 0,0 1 1999000000 2000000000,14 0 0 0,0 0 0 0,13 0 0 0,13 0 0 0,12 0 0 0,11 0 0 0");
+    for (w, h, want) in [(0, 1, 2), (1, 0, 2), (257, 1, 2), (1, 1025, 2), (65535, 65535, 2), (1, 1, 0), (256, 1024, 0)] {
+        same("new board", answers(&[board(w, h)])[0].clone(), &format!("{want} 0 0 0"));
+    }
+    same("unsound", answers(&[submit(9, 0, 0, 0, 0), clock(4_294_967_295), withdraw(0), board(3, 1), clock(5), board(0, 1), submit(0, 1, 1, 1, 9), clock(1), withdraw(1), board(3, 1), submit(0, 1, 1, 1, 9)]).join(","), "1 0 0 0,1 0 0 0,1 0 0 0,0 0 0 0,0 0 0 0,2 0 0 0,1 0 0 0,1 0 0 0,1 0 0 0,0 0 0 0,0 1 0 1");
+    same("unsound, questions", [Question::Horizon, Question::Busy(0), Question::Board, Question::Stamp(0)].iter().map(|q| told(&Board::zeros(), q)).collect(), "answer 1\nanswer 1\nanswer 1\nanswer 1\n");
+
+    // best fit is not first fit: the wider run on the left; and Stuffing passes a start of a waiting task by
+    let two_runs = [board(9, 1), submit(FULL, 1, 4, 1, 9), submit(FULL, 2, 1, 9, 9), submit(FULL, 3, 2, 1, 9), submit(FULL, 4, 1, 9, 9), submit(FULL, 5, 1, 9, 9), clock(1)];
+    for planner in 0..3 {
+        let mut events = two_runs.to_vec();
+        events.push(submit(planner, 6, 2, 1, 9));
+        same("best fit", places(&events), "(1,0) (5,0) (6,0) (8,0) (9,0) (6,1)");
+    }
+
+    // endings
+    let with = |tail: &[u8]| {
+        let mut bytes = recorded(&[board(4, 1), clock(1)]);
+        bytes.extend_from_slice(tail);
+        printed_bytes(&bytes).0.lines().skip(3).collect::<Vec<_>>().join(",")
+    };
+    same("end", with(&[]), "");
+    same("no byte at all", printed_bytes(&[]).0, "event kind answer column start finish\n");
+    for kind in [1u8, 2, 3, 4] {
+        for have in 0..body_length(kind).unwrap() {
+            let mut tail = vec![kind];
+            tail.resize(1 + have, 0xff);
+            same("cut short", with(&tail), &format!("3 {kind} 15 0 0 0"));
+        }
+    }
+    for kind in [0u8, 5, 6, 128, 255] {
+        same("unknown kind", with(&[kind]), &format!("3 {kind} 16 0 0 0"));
+        same("unknown kind, bytes after", with(&[kind, 3, 9, 0, 0, 0]), &format!("3 {kind} 16 0 0 0"));
+    }
+    for limit in [0, 1, 2, 3] {
+        let mut out = HEADER.to_vec();
+        let options = Options { check: true, counts: false, limit };
+        run(&recorded(&[board(4, 1), clock(1)])[..], &options, &mut Counts::default(), &mut |n, k, a| row(&mut out, n, k, a), &mut || {});
+        let want = ["", "1 1 0 0 0 0\n", "1 1 0 0 0 0\n2 3 0 0 0 0\n", "1 1 0 0 0 0\n2 3 0 0 0 0\n"][limit as usize];
+        same("limit", String::from_utf8(out).unwrap(), &format!("event kind answer column start finish\n{want}"));
+    }
+
+    if wrong == 0 {
+        println!("second: self-test: {right} comparisons, all as document 01 has them");
+        0
+    } else {
+        eprintln!("second: self-test: {wrong} of {} comparisons failed", right + wrong);
+        1
+    }
+}
