@@ -162,12 +162,12 @@ pub fn next_change<'a>(
     ensures { λ r. ⌜ Unchanged (now (start .entry)) (now (finish .entry)) count t e r ⌝ }
 {
     let from = t + 1;
-    let end = t + e;
+    let stay = t + e;
     let mut best: u32 = 0xffff_ffff - from;
     let mut i: usize = 0;
     while i < count {
         let leaves = std::num::wrapping_sub_u32(finish[i], from);
-        let comes = std::num::wrapping_sub_u32(start[i], end);
+        let comes = std::num::wrapping_sub_u32(start[i], stay);
         best = lesser(lesser(leaves, comes), best);
         i += 1;
     }

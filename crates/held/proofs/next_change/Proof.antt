@@ -24,16 +24,16 @@ one-more s f n t e best leaves comes r o p q u v b h = record { after = omega ar
     come i l k (no z) = omega (arith, o .starts i (omega arith) k)
 
 abbrev Inv-loop : tie.InvT-loop
-Inv-loop start finish count t e from end best₀ i₀ best i = (i ≤ count) × (from + best ≤ 4294967295) × Unchanged start finish i t e (from + best)
+Inv-loop start finish count t e from stay best₀ i₀ best i = (i ≤ count) × (from + best ≤ 4294967295) × Unchanged start finish i t e (from + best)
 
 abbrev μ-loop : tie.MeasureT-loop
-μ-loop start finish count t e from end best₀ i₀ best i = count - i
+μ-loop start finish count t e from stay best₀ i₀ best i = count - i
 
 add-from : tie.Need-add-from Inv-loop μ-loop
 add-from c = search needs
 
-add-end : tie.Need-add-end Inv-loop μ-loop
-add-end c = search needs
+add-stay : tie.Need-add-stay Inv-loop μ-loop
+add-stay c = search needs
 
 sub-best : tie.Need-sub-best Inv-loop μ-loop
 sub-best c = search needs
@@ -94,7 +94,7 @@ next-change-spec =
     Inv-loop
     μ-loop
     add-from
-    add-end
+    add-stay
     sub-best
     loop-holds
     mul-wrapping-sub-u32
