@@ -101,6 +101,7 @@ module _ (b : Board) (a : Submission) (s c : ℕ) (buffer : List ℕ) where
           → Promised (record { number = 0; count = f .count; more = f .more; board = b }) written
       unfolding opened openedBuffer orRefused filledOf
       listed-opened {f} {written} p q =
-          let n : refusedOpenings b a ≡ 0 = tests ∙ z in
-          (rw n (ap (λ (g : Filled). record { number = 0; count = g .count; more = g .more; board = b }) (p ∙ ap (filledOf (length buffer)) remaining-lent)),
-          rw n (q ∙ ap (λ ps. overFront (pairWords (take (length buffer / 2) ps)) buffer) remaining-lent))
+          let n : refusedOpenings b a ≡ 0 = tests ∙ z in (
+            rw n (ap (λ (g : Filled). record { number = 0; count = g .count; more = g .more; board = b }) (p ∙ ap (filledOf (length buffer)) remaining-lent)),
+            rw n (q ∙ ap (λ ps. overFront (pairWords (take (length buffer / 2) ps)) buffer) remaining-lent),
+          )

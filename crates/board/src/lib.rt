@@ -384,13 +384,7 @@ impl Board {
         }
     }
     // The openings for a task strictly after a pair, as many as the lent buffer has room for, start and column each: 1, 5, 6, 8.
-    pub fn openings(
-        self,
-        a: Submission,
-        start: u32,
-        column: u32,
-        buffer: &mut [u32],
-    ) -> Opened
+    pub fn openings(self, a: Submission, start: u32, column: u32, buffer: &mut [u32]) -> Opened
         ensures { λ r. ⌜ r ≡ opened self a start column (length (now (buffer .entry))) ⌝ }
         ensures { λ r. ⌜ now (buffer .exit) ≡ openedBuffer self a start column (now (buffer .entry)) ⌝ }
     {

@@ -95,18 +95,19 @@ module _ (W H now : ℕ) (ks : List Task) where
       step false q = let x : indexOf isFree (drop i ks) ≡ 0 = index-left isFree ks i freeSlot h ∙ rw q refl in omega arith
 
   -- a sound live task's finish fits
-  fits : (k : Task) → T (live k) → T (slotSound W H now k) → (k .start + k .e) % 4294967296 ≡ finish k
+  pub fits : (k : Task) → T (live k) → T (slotSound W H now k) → (k .start + k .e) % 4294967296 ≡ finish k
   unfolding slotSound
   fits k t s = let o = task-out W H now k t (rw (is-true (live k) t) at s) in omega (arith, o .in-time, o .d)
 
-  -- ONE SLOT MORE
-  pub pass : {id s f l r : List ℕ} {n free : ℕ} {sound : Bool} {i : ℕ} → Passed id s f l r n free sound i → i < 64
+  -- ONE SLOT MORE: what is stored matters where the slot is live
+  pub pass-any : {id s f l r : List ℕ} {n free : ℕ} {sound : Bool} {i : ℕ} → Passed id s f l r n free sound i → i < 64
       → {well alive : Bool} {more? free′ : ℕ} → well ≡ slotSound W H now (getD ks i freeSlot) → alive ≡ live (getD ks i freeSlot)
       → more? ≡ cond alive 1 0 → free′ ≡ cond alive free (min free i)
-      → Passed (set id n (getD ks i freeSlot .id)) (set s n (getD ks i freeSlot .start))
-      (set f n ((getD ks i freeSlot .start + getD ks i freeSlot .e) % 4294967296)) (set l n (getD ks i freeSlot .column))
-      (set r n (getD ks i freeSlot .column + getD ks i freeSlot .w)) (n + more?) free′ (sound && well) (i + 1)
-  pass {id} {s} {f} {l} {r} {n} {free} {sound} {i} p h {well} {alive} {more?} {free′} w a m g = record {
+      → {a′ b′ c′ d′ e′ : ℕ} → (T (live (getD ks i freeSlot)) → a′ ≡ getD ks i freeSlot .id) → (T (live (getD ks i freeSlot)) → b′ ≡ getD ks i freeSlot .start)
+      → (T (live (getD ks i freeSlot)) → T (slotSound W H now (getD ks i freeSlot)) → c′ ≡ finish (getD ks i freeSlot))
+      → (T (live (getD ks i freeSlot)) → d′ ≡ getD ks i freeSlot .column) → (T (live (getD ks i freeSlot)) → e′ ≡ getD ks i freeSlot .column + getD ks i freeSlot .w)
+      → Passed (set id n a′) (set s n b′) (set f n c′) (set l n d′) (set r n e′) (n + more?) free′ (sound && well) (i + 1)
+  pass-any {id} {s} {f} {l} {r} {n} {free} {sound} {i} p h {well} {alive} {more?} {free′} w a m g {a′} {b′} {c′} {d′} {e′} ai bi ci di ei = record {
     size = p .size;
     upto = omega arith;
     below = low alive m;
@@ -119,14 +120,14 @@ module _ (W H now : ℕ) (ks : List Task) where
     most = least alive g;
     frees = rw (g, a) (found free i inside (p .most) (p .frees));
     count = rw (m, a) (counted n i inside (p .count));
-    ids = rw (m, a) (more (λ k. k .id) id n i (k .id) inside (omega (arith, p .room-id, p .below)) (λ t. refl) (p .ids));
-    starts = rw (m, a) (more (λ k. k .start) s n i (k .start) inside (omega (arith, p .room-s, p .below)) (λ t. refl) (p .starts));
-    lefts = rw (m, a) (more (λ k. k .column) l n i (k .column) inside (omega (arith, p .room-l, p .below)) (λ t. refl) (p .lefts));
-    pasts = rw (m, a) (more (λ k. k .column + k .w) r n i (k .column + k .w) inside (omega (arith, p .room-r, p .below)) (λ t. refl) (p .pasts));
+    ids = rw (m, a) (more (λ k. k .id) id n i a′ inside (omega (arith, p .room-id, p .below)) ai (p .ids));
+    starts = rw (m, a) (more (λ k. k .start) s n i b′ inside (omega (arith, p .room-s, p .below)) bi (p .starts));
+    lefts = rw (m, a) (more (λ k. k .column) l n i d′ inside (omega (arith, p .room-l, p .below)) di (p .lefts));
+    pasts = rw (m, a) (more (λ k. k .column + k .w) r n i e′ inside (omega (arith, p .room-r, p .below)) ei (p .pasts));
     finishes = λ t.
         let both : T (all? (slotSound W H now) (take i ks) && slotSound W H now k) = rw (all-more (slotSound W H now) ks i freeSlot inside) at t in
-        rw (m, a) (more finish f n i ((k .start + k .e) % 4294967296) inside (omega (arith, p .room-f, p .below))
-        (λ v. fits k v (and-r (all? (slotSound W H now) (take i ks)) (slotSound W H now k) both))
+        rw (m, a) (more finish f n i c′ inside (omega (arith, p .room-f, p .below))
+        (λ v. ci v (and-r (all? (slotSound W H now) (take i ks)) (slotSound W H now k) both))
         (p .finishes (and-l (all? (slotSound W H now) (take i ks)) (slotSound W H now k) both)));
   }
     where
@@ -143,6 +144,15 @@ module _ (W H now : ℕ) (ks : List Task) where
       least : (b : Bool) → free′ ≡ cond b free (min free i) → free′ ≤ 64
       least true e = omega (arith, p .most)
       least false e = omega (arith, p .most)
+
+  -- a slot's own numbers stored
+  pub pass : {id s f l r : List ℕ} {n free : ℕ} {sound : Bool} {i : ℕ} → Passed id s f l r n free sound i → i < 64
+      → {well alive : Bool} {more? free′ : ℕ} → well ≡ slotSound W H now (getD ks i freeSlot) → alive ≡ live (getD ks i freeSlot)
+      → more? ≡ cond alive 1 0 → free′ ≡ cond alive free (min free i)
+      → Passed (set id n (getD ks i freeSlot .id)) (set s n (getD ks i freeSlot .start))
+      (set f n ((getD ks i freeSlot .start + getD ks i freeSlot .e) % 4294967296)) (set l n (getD ks i freeSlot .column))
+      (set r n (getD ks i freeSlot .column + getD ks i freeSlot .w)) (n + more?) free′ (sound && well) (i + 1)
+  pass {i} p h w a m g = pass-any p h w a m g (λ t. refl) (λ t. refl) (fits (getD ks i freeSlot)) (λ t. refl) (λ t. refl)
 
   -- AFTER THE LAST
   pub end : {id s f l r : List ℕ} {n free : ℕ} {sound : Bool} {i : ℕ} → Passed id s f l r n free sound i → i ≡ 64

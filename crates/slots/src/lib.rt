@@ -62,7 +62,7 @@ fn slot_sound(columns: u16, rows: u16, now: u32, k: Task) -> bool
 }
 
 // 1 for a live slot.
-fn one_if(live: bool) -> usize
+pub fn one_if(live: bool) -> usize
     ensures { λ r. ⌜ r ≡ cond live 1 0 ⌝ }
     ensures { λ r. ⌜ r ≤ 1 ⌝ }
 {
@@ -70,7 +70,7 @@ fn one_if(live: bool) -> usize
 }
 
 // The lowest free slot, where slot i is live or not.
-fn lowest(free: usize, i: usize, live: bool) -> usize
+pub fn lowest(free: usize, i: usize, live: bool) -> usize
     ensures { λ r. ⌜ r ≡ cond live free (min free i) ⌝ }
 {
     if live {

@@ -1,0 +1,4 @@
+pub mod Taking
+pub mod Finding
+pub mod Ending
+pub mod Gathering

@@ -1,0 +1,15 @@
+-- `apart::kept` meets its contract. Assumes nothing.
+use mathlib.Core.Path.{_≡_}
+use borrow.Author.Tests.{le-leb, lt-leb}
+use borrow.Author.Needs.{needs}
+use Rattle.apart.proofs.kept.Statement.{statement}
+use Rattle.apart.proofs.kept.Tie as tie
+
+returns : tie.Need-returns
+returns c = rw (le-leb (c .before .args .finish) (c .before .args .instant) (c .if1 .taken))
+
+returns-2 : tie.Need-returns-2
+returns-2 c = rw (lt-leb (c .before .args .finish) (c .before .args .instant) (c .if1 .left))
+
+pub kept-spec : {M : Type 1} → statement M
+kept-spec = tie.close (tie.spec returns returns-2)
