@@ -169,3 +169,25 @@ pub fn put<'a>(
     left[slot] = k.column as u32;
     past[slot] = k.column as u32 + k.w as u32;
 }
+
+// 1 for a hit.
+fn hit(same: bool) -> u32
+    ensures { λ r. ⌜ r ≡ cond same 1 0 ⌝ }
+    ensures { λ r. ⌜ r ≤ 1 ⌝ }
+{
+    if same { 1 } else { 0 }
+}
+
+// Whether one of the first ids is this. They are counted and the walk is not left early: that is done several at a time.
+pub fn among(ids: &[u32; 64], count: usize, id: u32) -> bool
+    requires { ⌜ (count ≤ 64) × (count ≤ length (now ids)) ⌝ }
+    ensures { λ r. ⌜ r ≡ some? (λ x. eqb x id) (take count (now (ids .entry))) ⌝ }
+{
+    let mut hits: u32 = 0;
+    let mut i: usize = 0;
+    while i < count {
+        hits += hit(ids[i] == id);
+        i += 1;
+    }
+    0 < hits
+}

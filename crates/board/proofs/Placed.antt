@@ -1,8 +1,11 @@
 -- What a submission's answer means: a place is an opening, Full's is the first, a rejection by Full means that there is none. Assumes nothing.
-use Prim.Native.Nat.{ℕ, zero, suc, _+_, _≤_}
+use Prim.Native.Nat.{ℕ, zero, suc, _+_, _≤_, _<_}
 use mathlib.Core.Path.{_≡_, refl, sym, ap, _∙_, subst}
 use mathlib.Core.Logic.{_⊎_}
+use mathlib.Core.Bool.{not}
 use mathlib.Core.Option.{Option, none, some}
+use Rattle.lists.specs.Lists.{indexOf}
+use Rattle.tasks.specs.Tasks.{live}
 use native.Mathlib.Omega.{arith}
 use Rattle.ways.specs.Ways.{pair}
 use Rattle.tasks.specs.declared.Submission.{Submission}
@@ -16,7 +19,8 @@ use Rattle.board.specs.declared.Answer.the-variants.{Rejected, Placed, R
 use Rattle.board.specs.Refusals.{liveOf, refusedSubmit}
 use Rattle.board.specs.Calls.{taken, answered, submitted}
 use Rattle.board.proofs.Kept.{Accepted, submit-accepted, refused-submit-same}
-use Rattle.board.proofs.Submit.{accepted-answered}
+use Rattle.board.specs.Untested.{submittedBooked}
+use Rattle.board.proofs.Submit.{accepted-answered, free-inside, booked-there}
 
 module _ (b : Board) (n : ℕ) (a : Submission) where
   abbrev found : Option Place
@@ -67,3 +71,35 @@ full-rejected b a e q o =
     let r = unrefused b 3 a Rejected e (λ k x. let z : _≡_ {A = ℕ} 0 1 = cc in omega arith) in
     let t = taken-none b 3 a (found b 3 a) (sym (ap (λ y. y .answer) (accepted-answered b 3 a r)) ∙ e) in
     full-rejects (b .columns) (b .now) (liveOf b) a t q o
+
+-- WHAT A PLACE BOOKS: the lowest free slot, the record with the column and start answered; nothing else changes
+pub record BooksAt (b : Board) (n : ℕ) (a : Submission) (free c s f : ℕ) : Type 0 where
+  pub inside : free < 64
+  pub fits : s + a .e ≤ 2000000000
+  pub finish : f ≡ s + a .e
+  pub same : submitted b n a ≡ submittedBooked b a free c s
+
+pub placed-books : (b : Board) (n : ℕ) (a : Submission) {free c s f : ℕ} → free ≡ indexOf (λ k. not (live k)) (b .tasks) → submitted b n a .answer ≡ Placed c s f → BooksAt b n a free c s f
+placed-books b n a {free} {c} {s} {f} z e =
+    let r = unrefused b n a (Placed c s f) e (λ k q. let y : _≡_ {A = ℕ} 0 1 = cc in omega arith) in
+    let k = submit-accepted b n a r in
+    let t = taken-place b n a (found b n a) (sym (ap (λ y. y .answer) (accepted-answered b n a r)) ∙ e) in
+    let o = planned-opens (b .columns) (b .now) (liveOf b) a (k .reachable) n (t .0) in
+    record {
+      inside = omega (arith, z, free-inside b n a k);
+      fits = omega (arith, o .in-time, k .d);
+      finish = t .1;
+      same = accepted-answered b n a r ∙ ap (taken b a) (t .0) ∙ booked-there b a c s free z;
+    }
+
+-- an answer that is no place hands back the same board
+pub unplaced-same : (b : Board) (n : ℕ) (a : Submission) (x : Answer) → submitted b n a .answer ≡ x → ((c s f : ℕ) → x ≡ Placed c s f → ⊥) → submitted b n a ≡ record { answer = x; board = b }
+unplaced-same b n a x e none? = go (refusedSubmit b n a) refl
+  where
+    go : (r : ℕ) → refusedSubmit b n a ≡ r → submitted b n a ≡ record { answer = x; board = b }
+    go (suc r) q = refused-submit-same b n a r q ∙ ap (λ y. record { answer = y; board = b }) (sym (ap (λ y. y .answer) (refused-submit-same b n a r q)) ∙ e)
+    go zero q = by (found b n a) (accepted-answered b n a q)
+      where
+        by : (o : Option Place) → submitted b n a ≡ taken b a o → submitted b n a ≡ record { answer = x; board = b }
+        by none u = unfold taken in u ∙ ap (λ y. record { answer = y; board = b }) (sym (ap (λ y. y .answer) u) ∙ e)
+        by (some p) u = unfold taken in absurd (none? (p .place) (p .start) (p .start + a .e) (sym e ∙ ap (λ y. y .answer) u))

@@ -2,18 +2,18 @@
 use Prim.Native.Nat.{ℕ, zero, suc, _+_, _%_, _≤_, _<_}
 use mathlib.Core.Path.{_≡_, refl, sym, ap, _∙_, subst}
 use mathlib.Core.Logic.{_⊎_, inl, inr}
-use mathlib.Core.Bool.{Bool, true, false, not}
+use mathlib.Core.Bool.{Bool, true, false, not, cond, _&&_, _||_}
 use mathlib.Core.Option.{Option, none, some}
 use mathlib.Core.List.{List, [], _∷_, map}
 use native.Mathlib.Omega.{arith}
 use native.Mathlib.Decide.{ℕ-discrete as decEq}
 use lib.Dec.{T, leb, ltb, eqb, ltb→lt, lt→ltb, not-T, T-not}
-use lib.ListN.{length, getD, set}
+use lib.ListN.{length, take, getD, set, length-take, length-map}
 use borrow.Author.Tests.{ltb-true}
 use Rattle.lists.specs.Lists.{_∈_, keep, some?, all?, indexOf}
 use Rattle.lists.proofs.Bools.{bool, not-not}
 use Rattle.lists.proofs.Members.{none-pass, keep-all, length-keep}
-use Rattle.lists.proofs.Append.{index-test, put-index}
+use Rattle.lists.proofs.Append.{index-test, put-index, some-map}
 use Rattle.ways.specs.Ways.{pair}
 use Rattle.tasks.specs.declared.Task.{Task}
 use Rattle.tasks.specs.declared.Submission.{Submission}
@@ -42,7 +42,17 @@ use Rattle.board.specs.Untested.{submittedBooked}
 use Rattle.board.proofs.Refusals.{sound-passes, unsound-refused}
 use Rattle.board.proofs.Kept.{SoundBoard, Accepted, submit-accepted}
 
--- the tests after test 1, as the code makes them: `slot` is where a live task of the id stands, `count` the number of live tasks
+-- an element that is kept and passes is one that passes both
+some-keep : {A : Type 0} (p q : A → Bool) (xs : List A) → some? q (keep p xs) ≡ some? (λ x. p x && q x) xs
+unfolding some? keep
+some-keep p q [] = refl
+some-keep p q (x ∷ xs) = step (p x) (some-keep p q xs)
+  where
+    step : (b : Bool) → some? q (keep p xs) ≡ some? (λ y. p y && q y) xs → some? q (cond b (x ∷ keep p xs) (keep p xs)) ≡ ((b && q x) || some? (λ y. p y && q y) xs)
+    step true e = ap (λ r. q x || r) e
+    step false e = e
+
+-- the tests after test 1, as the code makes them: `used` says that a live task has the id, `count` is the number of live tasks
 abbrev pub testsAfter : Board → ℕ → Submission → Bool → ℕ → List Test
 testsAfter b n a used count =
     (3 when ltb 3 n) ∷ (4 when eqb (a .id) 0) ∷ badSize b a ∷ badTime a ∷ (7 when used) ∷ tooLate b a ∷ (9 when leb 64 count) ∷ []
@@ -59,22 +69,26 @@ module _ (b : Board) (n : ℕ) (a : Submission) (v : Findings) (o : Surveyed (b 
   every = each-sound (b .columns) (b .rows) (b .now) (b .tasks) (rw good tt)
 
   -- the refusals of the book are the code's
-  pub refused-after : {slot : ℕ} → slot ≡ indexOf (named (a .id)) (b .tasks) → refusedSubmit b n a ≡ refusal (testsAfter b n a (ltb slot 64) (v .count))
-  unfolding refusedSubmit known
-  refused-after {slot} e =
+  pub refused-after : {used : Bool} → used ≡ some? (λ x. eqb x (a .id)) (take (v .count) (v .id)) → refusedSubmit b n a ≡ refusal (testsAfter b n a used (v .count))
+  unfolding refusedSubmit known named
+  refused-after {used} e =
       sound-passes b (testsAfter b n a (known (a .id) (b .tasks)) (length (liveOf b))) good
-      ∙ ap (λ x. refusal (testsAfter b n a x (length (liveOf b)))) (index-test (named (a .id)) (b .tasks) ∙ ap (ltb (indexOf (named (a .id)) (b .tasks))) (s .slots) ∙ sym (ap (λ x. ltb x 64) e))
-      ∙ sym (ap (λ x. refusal (testsAfter b n a (ltb slot 64) x)) (o .count))
+      ∙ ap (λ x. refusal (testsAfter b n a x (length (liveOf b)))) (sym (e ∙ ap (some? (λ x. eqb x (a .id))) (o .ids) ∙ some-map (λ x. eqb x (a .id)) (λ k. k .id) (liveOf b) ∙ some-keep live (λ k. eqb (k .id) (a .id)) (b .tasks)))
+      ∙ sym (ap (λ x. refusal (testsAfter b n a used x)) (o .count))
 
-  pub refused-same : {r slot : ℕ} → slot ≡ indexOf (named (a .id)) (b .tasks) → r ≡ refusal (testsAfter b n a (ltb slot 64) (v .count)) → 0 < r → submitted b n a ≡ record { answer = Refused r; board = b }
+  -- the ids of the survey are as many as it counts
+  pub ids-there : v .count ≤ length (v .id)
+  ids-there = omega (arith, length-take (v .count) (v .id), ap length (o .ids), length-map (liveOf b) (λ k. k .id), o .count)
+
+  pub refused-same : {r : ℕ} {used : Bool} → used ≡ some? (λ x. eqb x (a .id)) (take (v .count) (v .id)) → r ≡ refusal (testsAfter b n a used (v .count)) → 0 < r → submitted b n a ≡ record { answer = Refused r; board = b }
   unfolding submitted
-  refused-same {r} {slot} e q h = go r (refused-after e ∙ sym q) h
+  refused-same {r} {used} e q h = go r (refused-after e ∙ sym q) h
     where
       go : (k : ℕ) → refusedSubmit b n a ≡ k → 0 < k → submitted b n a ≡ record { answer = Refused k; board = b }
       go zero z l = absurd (omega arith)
       go (suc k) z l = unfold orRefused in rw z
 
-  pub accepted : {r slot : ℕ} → slot ≡ indexOf (named (a .id)) (b .tasks) → r ≡ refusal (testsAfter b n a (ltb slot 64) (v .count)) → r ≡ 0 → Accepted b n a
+  pub accepted : {r : ℕ} {used : Bool} → used ≡ some? (λ x. eqb x (a .id)) (take (v .count) (v .id)) → r ≡ refusal (testsAfter b n a used (v .count)) → r ≡ 0 → Accepted b n a
   accepted e q z = submit-accepted b n a (refused-after e ∙ sym q ∙ z)
 
   -- the tasks of the survey lie on the device
@@ -172,8 +186,8 @@ is-three (suc (suc (suc (suc n)))) h a b c = absurd (omega arith)
 pub promised : (r q : Submitted) → r ≡ q → (r ≡ q) × (told (r .answer) ≡ told (q .answer))
 promised r q e = (e, ap (λ x. told (x .answer)) e)
 
-module _ (b : Board) (n : ℕ) (a : Submission) (v : Findings) (o : Surveyed (b .columns) (b .rows) (b .now) (b .tasks) v) (good : soundBoard b ≡ true) {slot r : ℕ}
-    (e : slot ≡ indexOf (named (a .id)) (b .tasks)) (q : r ≡ refusal (testsAfter b n a (ltb slot 64) (v .count))) (z : r ≡ 0) where
+module _ (b : Board) (n : ℕ) (a : Submission) (v : Findings) (o : Surveyed (b .columns) (b .rows) (b .now) (b .tasks) v) (good : soundBoard b ≡ true) {r : ℕ} {used : Bool}
+    (e : used ≡ some? (λ x. eqb x (a .id)) (take (v .count) (v .id))) (q : r ≡ refusal (testsAfter b n a used (v .count))) (z : r ≡ 0) where
   k : Accepted b n a
   k = accepted b n a v o good e q z
 
@@ -188,25 +202,24 @@ module _ (b : Board) (n : ℕ) (a : Submission) (v : Findings) (o : Surveyed (b 
   may-ask = (on-device b n a v o good, (k .planner, k .w .low, k .w .high, k .e .low, k .reachable, k .d))
 
   -- no place was found: the rejection
-  pub rejected : {f : Found} → f ≡ foundOf (planned (b .columns) (b .now) lentTasks (asked (a .w) (a .e) (a .d)) n) → f ≡ Nothing → record { answer = Rejected; board = b } ≡ submitted b n a
+  pub rejected : {f : Found} → f ≡ foundOf (planned (b .columns) (b .now) lentTasks (asked (a .w) (a .e) (a .d)) n) → f ≡ Nothing → Rejected ≡ submitted b n a .answer
   unfolding taken
   rejected x y =
       let m = found-none (planned (b .columns) (b .now) (liveOf b) a n) (sym y ∙ x ∙ planned-lent b n a v o good (k .planner)) in
-      sym (accepted-answered b n a none-refused ∙ ap (taken b a) m)
+      sym (ap (λ s. s .answer) (accepted-answered b n a none-refused ∙ ap (taken b a) m))
 
   -- a place was found
   pub record Settled (c t : ℕ) : Type 0 where
-    pub inside : v .free < 64
-    pub fits : t + a .e ≤ 4294967295
-    pub same : submittedBooked b a (v .free) (c % 65536) t ≡ submitted b n a
+    pub fits : t + a .e ≤ 2000000000
+    pub same : Placed (c % 65536) t (t + a .e) ≡ submitted b n a .answer
 
   pub settled : {f : Found} {c t : ℕ} → f ≡ foundOf (planned (b .columns) (b .now) lentTasks (asked (a .w) (a .e) (a .d)) n) → f ≡ At c t → Settled c t
+  unfolding taken
   settled {f} {c} {t} x y =
       let m = found-some (planned (b .columns) (b .now) (liveOf b) a n) (sym y ∙ x ∙ planned-lent b n a v o good (k .planner)) in
       let w = planned-opens (b .columns) (b .now) (liveOf b) a (k .reachable) n m in
       let u : c % 65536 ≡ c = omega (arith, w .on-device, k .sound .columns .high) in
       record {
-        inside = omega (arith, o .free, free-inside b n a k);
         fits = omega (arith, w .in-time, k .d);
-        same = ap (λ h. submittedBooked b a (v .free) h t) u ∙ sym (booked-there b a c t (v .free) (o .free)) ∙ sym (accepted-answered b n a none-refused ∙ ap (taken b a) m);
+        same = ap (λ h. Placed h t (t + a .e)) u ∙ sym (ap (λ s. s .answer) (accepted-answered b n a none-refused ∙ ap (taken b a) m));
       }

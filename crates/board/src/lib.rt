@@ -1,22 +1,24 @@
 // The board of document 01, its calls and what they answer. The calls test what they are handed and put the answer together;
 // the work is done in the crates below.
 ghost use mathlib.Core.Path.{_≡_};
-ghost use mathlib.Core.Bool.{not};
-ghost use mathlib.Core.List.{[], _∷_};
-ghost use Prim.Native.Nat.{_+_, _≤_, _<_};
+ghost use mathlib.Core.Bool.{Bool, true, not};
+ghost use mathlib.Core.List.{List, [], _∷_};
+ghost use Prim.Native.Nat.{ℕ, _+_, _≤_, _<_};
 ghost use lib.Dec.{leb, ltb, eqb};
 ghost use lib.ListN.{length, set};
 ghost use Rattle.tasks.specs.Numbers.{sizeFits, timeFits};
+ghost use Rattle.tasks.specs.declared.Task.{Task};
 ghost use Rattle.tasks.specs.Tasks.{booked};
+ghost use Rattle.slots.specs.Slots.{sound};
+ghost use Rattle.slots.specs.Survey.{Surveyed};
 ghost use Rattle.planners.specs.Planners.{planned};
 ghost use Rattle.planners.specs.Lent.{foundOf, tasksOf, OnDevice, asked};
 ghost use Rattle.board.specs.declared.Answer.the-variants.{Placed};
 ghost use Rattle.board.specs.Answers.{told};
 ghost use Rattle.board.specs.Refusals.{_when_, refusal, soundBoard};
 ghost use Rattle.board.specs.Calls.{withTasks, freshBoard, created, submitted, clocked, withdrawn, opened, openedBuffer};
-ghost use Rattle.board.specs.Untested.{clockedUntested, withdrawnUntested, submittedBooked};
+ghost use Rattle.board.specs.Untested.{clockedUntested, withdrawnUntested, submittedBooked, boardOf, Standing};
 use planners::Found;
-use slots::Findings;
 use tasks::Submission;
 use tasks::Task;
 
@@ -135,66 +137,81 @@ fn refuse_openings(columns: u16, rows: u16, clock: u32, a: Submission) -> u8
 }
 
 // The place that the named planner finds among the live tasks. Reference is Stuffing with no time after now.
-fn place(planner: u8, v: Findings, width: u32, clock: u32, w: u32, e: u32, d: u32) -> Found
-    requires { ⌜ OnDevice width (v .count) (v .start) (v .finish) (v .left) (v .past) ⌝ }
+fn place<'a>(
+    planner: u8,
+    start: &'a [u32; 64],
+    finish: &'a [u32; 64],
+    left: &'a [u32; 64],
+    past: &'a [u32; 64],
+    n: usize,
+    width: u32,
+    clock: u32,
+    w: u32,
+    e: u32,
+    d: u32,
+) -> Found
+    requires { ⌜ OnDevice width n (now start) (now finish) (now left) (now past) ⌝ }
     requires { ⌜ (planner ≤ 3) × (1 ≤ w) × (w ≤ width) × (1 ≤ e) × (clock + e ≤ d) × (d ≤ 2000000000) ⌝ }
-    ensures { λ r. ⌜ r ≡ foundOf (planned width clock (tasksOf (v .count) (v .start) (v .finish) (v .left) (v .past)) (asked w e d) planner) ⌝ }
+    ensures { λ r. ⌜ r ≡ foundOf (planned width clock (tasksOf n (now (start .entry)) (now (finish .entry)) (now (left .entry)) (now (past .entry))) (asked w e d) planner) ⌝ }
 {
-    let n = v.count;
     if planner == 0 {
-        return stuffing::stuffing(
-            &v.start,
-            &v.finish,
-            &v.left,
-            &v.past,
-            n,
-            width,
-            clock,
-            w,
-            e,
-            clock + e,
-        );
+        return stuffing::stuffing(start, finish, left, past, n, width, clock, w, e, clock + e);
     }
     if planner == 1 {
-        return horizon::horizon(
-            &v.start,
-            &v.finish,
-            &v.left,
-            &v.past,
-            n,
-            width,
-            clock,
-            w,
-            e,
-            d,
-        );
+        return horizon::horizon(start, finish, left, past, n, width, clock, w, e, d);
     }
     if planner == 2 {
-        return stuffing::stuffing(
-            &v.start,
-            &v.finish,
-            &v.left,
-            &v.past,
-            n,
-            width,
-            clock,
-            w,
-            e,
-            d,
-        );
+        return stuffing::stuffing(start, finish, left, past, n, width, clock, w, e, d);
     }
-    full::full(
-        &v.start,
-        &v.finish,
-        &v.left,
-        &v.past,
-        n,
-        width,
+    full::full(start, finish, left, past, n, width, clock, w, e, d)
+}
+
+// What a task submitted to a sound board is answered, its live tasks lent: 3 to 9, a place, or the rejection.
+pub fn decide<'a>(
+    id: &'a [u32; 64],
+    start: &'a [u32; 64],
+    finish: &'a [u32; 64],
+    left: &'a [u32; 64],
+    past: &'a [u32; 64],
+    count: usize,
+    columns: u16,
+    rows: u16,
+    clock: u32,
+    planner: u8,
+    a: Submission,
+) -> Answer
+    requires { ⌜ Standing columns rows clock (now id) (now start) (now finish) (now left) (now past) count ⌝ }
+    ensures { λ r. ⌜ ((ks : List Task) (free : ℕ) (well : Bool) → Surveyed columns rows clock ks (record { id = now (id .entry); start = now (start .entry); finish = now (finish .entry); left = now (left .entry); past = now (past .entry); count = count; free = free; sound = well }) → sound columns rows clock ks ≡ true → r ≡ submitted (boardOf ks clock columns rows) planner a .answer) ⌝ }
+{
+    let known = apart::among(id, count, a.id);
+    let number = refuse(planner, columns, rows, clock, a, known, count);
+    if 0 < number {
+        return Answer::Refused(number);
+    }
+    let found = place(
+        planner,
+        start,
+        finish,
+        left,
+        past,
+        count,
+        columns as u32,
         clock,
-        w,
-        e,
-        d,
-    )
+        a.w as u32,
+        a.e,
+        a.d,
+    );
+    match found {
+        Found::Nothing => Answer::Rejected,
+        Found::At {
+            column,
+            start: from,
+        } => Answer::Placed {
+            column: (column % 65536) as u16,
+            start: from,
+            finish: from + a.e,
+        },
+    }
 }
 
 // "A new board has the W and H asked for, now 0 and 64 free slots".
@@ -251,38 +268,35 @@ impl Board {
                 board: self,
             };
         }
-        let slot = slots::slot_named(tasks, a.id);
-        let number = refuse(
-            planner,
+        let n = v.count;
+        let answer = decide(
+            &v.id,
+            &v.start,
+            &v.finish,
+            &v.left,
+            &v.past,
+            n,
             self.columns,
             self.rows,
             self.now,
-            a,
-            slot < 64,
-            v.count,
-        );
-        if 0 < number {
-            return Submitted {
-                answer: Answer::Refused(number),
-                board: self,
-            };
-        }
-        let free = v.free;
-        let found = place(
             planner,
-            v,
-            self.columns as u32,
-            self.now,
-            a.w as u32,
-            a.e,
-            a.d,
+            a,
         );
-        match found {
-            Found::Nothing => Submitted {
+        let free = v.free;
+        match answer {
+            Answer::Rejected => Submitted {
                 answer: Answer::Rejected,
                 board: self,
             },
-            Found::At { column, start } => self.book(a, free, (column % 65536) as u16, start),
+            Answer::Refused(number) => Submitted {
+                answer: Answer::Refused(number),
+                board: self,
+            },
+            Answer::Placed {
+                column,
+                start,
+                finish: _,
+            } => self.book(a, free, column, start),
         }
     }
 

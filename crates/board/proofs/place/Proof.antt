@@ -1,5 +1,5 @@
 -- `board::place` meets its contract: each number asks its planner. Assumes nothing.
-use mathlib.Core.Path.{_≡_, sym, ap, _∙_, subst}
+use mathlib.Core.Path.{_≡_, sym, ap, _∙_}
 use Rattle.planners.specs.Planners.{planned}
 use Rattle.planners.specs.Lent.{foundOf}
 use Rattle.planners.proofs.Bare.{reference-is}
@@ -16,24 +16,21 @@ stuffing-requires c κs = search needs
 
 returns : tie.Need-returns
 unfolding planned
-returns c =
-    let t = c .before .before .before .before .before .before in
-    let a = t .before .args in
-    rw (t .if1 .taken) (c .stuffing .ensures ∙ ap foundOf (sym (reference-is _ _ _ _ _ (a .d))))
+returns c = rw (c .before .if1 .taken) (c .stuffing .ensures ∙ ap foundOf (sym (reference-is _ _ _ _ _ (c .before .before .args .d))))
 
 horizon-requires : tie.Need-horizon-requires
 horizon-requires c κs = search needs
 
 returns-2 : tie.Need-returns-2
 unfolding planned
-returns-2 c = rw (c .before .before .before .before .before .before .if2 .taken) (c .horizon .ensures)
+returns-2 c = rw (c .before .if2 .taken) (c .horizon .ensures)
 
 stuffing-requires-2 : tie.Need-stuffing-requires-2
 stuffing-requires-2 c κs = search needs
 
 returns-3 : tie.Need-returns-3
 unfolding planned
-returns-3 c = rw (c .before .before .before .before .before .before .if3 .taken) (c .stuffing2 .ensures)
+returns-3 c = rw (c .before .if3 .taken) (c .stuffing2 .ensures)
 
 full-requires : tie.Need-full-requires
 full-requires c κs = search needs
@@ -41,10 +38,9 @@ full-requires c κs = search needs
 returns-4 : tie.Need-returns-4
 unfolding planned
 returns-4 c =
-    let e = c .before .before .before .before .before .before in
-    let a = e .before .before .before .args in
-    let z = is-three (a .planner) (e .before .before .before .pre .1 .0) (e .before .before .if1 .left) (e .before .if2 .left) (e .if3 .left) in
-    rw z (c .full .ensures)
+    let e = c .before in
+    let s = e .before .before .before in
+    rw (is-three (s .args .planner) (s .pre .1 .0) (e .before .before .if1 .left) (e .before .if2 .left) (e .if3 .left)) (c .full .ensures)
 
 pub place-spec : {M : Type 1} → statement M
 place-spec =
