@@ -1,1 +1,2 @@
 pub mod HorizonList
+pub mod Bare
