@@ -3,3 +3,4 @@ pub mod Untested
 pub mod Kept
 pub mod Submit
 pub mod Placed
+pub mod Lookups
