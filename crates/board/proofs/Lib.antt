@@ -4,3 +4,4 @@ pub mod Kept
 pub mod Submit
 pub mod Placed
 pub mod Lookups
+pub mod Looked

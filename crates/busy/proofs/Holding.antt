@@ -13,12 +13,12 @@ use Rattle.lists.proofs.Append.{keep-append, some-more}
 use Rattle.tasks.specs.Tasks.{holds}
 use Rattle.tasks.proofs.Laws.{holds-out}
 use Rattle.columns.specs.Columns.{columns}
-use Rattle.planners.specs.Planners.{free}
 use Rattle.planners.specs.Lent.{OnDevice, taskAt, tasksOf}
 use Rattle.planners.proofs.Lent.{tasks-more, task-in, holds-at}
 use Rattle.words.specs.Words.{column}
 use Rattle.words.proofs.Columns.{noWords, column-none}
 use Rattle.lookups.specs.Lookups.{busyColumns}
+use Rattle.lookups.proofs.Busy.{busy-held}
 
 -- two tests that agree on a list keep the same of it
 keep-agree : {A : Type 0} (p q : A → Bool) (xs : List A) → ((x : A) → x ∈ xs → p x ≡ q x) → keep p xs ≡ keep q xs
@@ -73,19 +73,12 @@ module _ (s f l r : List ℕ) (t : ℕ) where
 
   -- AFTER THE LAST: past the width no column is held, so the ones are the busy columns
   module _ {W n : ℕ} (o : OnDevice W n s f l r) {words : List ℕ} (g : HeldBy words n) where
-    busy : ℕ → Bool
-    busy c = not (free (tasksOf n s f l r) t c)
+    held? : ℕ → Bool
+    held? c = some? (holds t c) (tasksOf n s f l r)
 
-    is-busy : (c : ℕ) → busy c ≡ some? (holds t c) (tasksOf n s f l r)
-    unfolding busy free
-    is-busy c = twice (some? (holds t c) (tasksOf n s f l r))
-      where
-        twice : (b : Bool) → not (not b) ≡ b
-        twice true = refl
-        twice false = refl
-
-    none-past : (c : ℕ) → c ∈ range (1 + W) (256 - W) → busy c ≡ false
-    none-past c m = is-busy c ∙ is-false (some? (holds t c) (tasksOf n s f l r)) (pass-none (holds t c) (tasksOf n s f l r) (λ u k. not-T (holds t c u) (λ b. off u k b)))
+    none-past : (c : ℕ) → c ∈ range (1 + W) (256 - W) → held? c ≡ false
+    unfolding held?
+    none-past c m = is-false (held? c) (pass-none (holds t c) (tasksOf n s f l r) (λ u k. not-T (holds t c u) (λ b. off u k b)))
       where
         off : (u : _) → u ∈ tasksOf n s f l r → T (holds t c u) → ⊥
         off u k b =
@@ -95,10 +88,11 @@ module _ (s f l r : List ℕ) (t : ℕ) where
             omega (arith, y .to, o .columns (i .0) (i .1), o .past (i .0) (i .1), range-in (1 + W) (256 - W) m .low)
 
     pub ones-busy : length (keep (column words) (range 1 256)) ≡ busyColumns W (tasksOf n s f l r) t
-    unfolding busyColumns busy
+    unfolding held?
     ones-busy =
         let w : 256 ≡ W + (256 - W) = omega (arith, o .wide) in
         ap length
-        (keep-agree (column words) busy (range 1 256) (λ c m. let b = range-in 1 256 m in g .same c (b .low) (omega (arith, b .high)) ∙ sym (is-busy c))
-        ∙ ap (λ k. keep busy (range 1 k)) w ∙ ap (keep busy) (range-split 1 W (256 - W)) ∙ keep-append busy (range 1 W) (range (1 + W) (256 - W))
-        ∙ ap (λ l. keep busy (range 1 W) ++ l) (keep-none busy (range (1 + W) (256 - W)) none-past) ∙ append-nil (keep busy (range 1 W)))
+        (keep-agree (column words) held? (range 1 256) (λ c m. let b = range-in 1 256 m in g .same c (b .low) (omega (arith, b .high)))
+        ∙ ap (λ k. keep held? (range 1 k)) w ∙ ap (keep held?) (range-split 1 W (256 - W)) ∙ keep-append held? (range 1 W) (range (1 + W) (256 - W))
+        ∙ ap (λ l. keep held? (range 1 W) ++ l) (keep-none held? (range (1 + W) (256 - W)) none-past) ∙ append-nil (keep held? (range 1 W)))
+        ∙ sym (busy-held W (tasksOf n s f l r) t)
