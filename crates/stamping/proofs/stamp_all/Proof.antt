@@ -226,7 +226,7 @@ module _ {M : Type 1} (𝓤 : URA M) (H : Heap 𝓤) (A : Atoms 𝓤) (W : Given
         rewrite ! 10 (λ (p : ℕ). ‵ (fat fullShare tyPtr l₁₀ 0 (vptr b p))) (sym (place-is size o i)) refl $
         assigns ! (of-opd ! (load ! (from ! (stop !)) (look ! 6 refl))) (from ! (hop ! (look ! 10 refl) (stop !))) (store-raw ! 1 refl (LL.lawful T.the-type T′.the-laws 𝓤 H A W .typed r′ _ is .0)) $
         move ! (1 ∷ 0 ∷ []) $ elem-put ! R fullShare (done-to f i xs) i r′ (v ∷ []) b o within $
-        assigns-last ! (bin ! (load ! (from ! (stop !)) (look ! 1 refl)) (lit ! tt) (record { fits = next-fits })) (from ! (stop !)) (store ! 1 refl (tt, record { fits = next-fits })) $
+        assigns-last ! (bin ! (load ! (from ! (stop !)) (look ! 1 refl)) (lit ! tt) (record { fits = omega (arith, small, room .1) })) (from ! (stop !)) (store ! 1 refl (tt, record { fits = omega (arith, small, room .1) })) $
         forget ! 2 refl $ forget ! 3 refl $ forget ! 4 refl $ forget ! 5 refl $ forget ! 6 refl $ forget ! 7 refl $ forget ! 8 refl $
         rewrite ! 1 (λ (j : ℕ). ‵ (fat fullShare (tyInt w64) l₃ 0 (vint w64 j))) (add-one i) refl $
         rewrite ! 0 (λ (ys : List Task). ‵ (row R fullShare ys b o)) (ap (λ (y : Task). set (done-to f i xs) i y) e ∙ done-next f i xs freeSlot small) refl $ by ! k)))))
@@ -239,9 +239,6 @@ module _ {M : Type 1} (𝓤 : URA M) (H : Heap 𝓤) (A : Atoms 𝓤) (W : Given
 
         place-fits : i * size < 2 ^ 64
         place-fits = omega (arith, room .1)
-
-        next-fits : i + 1 < 2 ^ 64
-        next-fits = omega (arith, room .0)
 
     -- the turn that leaves the loop, and the rest of the body: the borrow is closed at the list that is stamped
     ends : (X : SProp 𝓤) → ent 𝓤 (⋆ 𝓤 H A (At n)) (Wp 𝓤 H C Λ En turn-1 (afterTurn 𝓤 H X Left))
