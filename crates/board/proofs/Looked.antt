@@ -1,24 +1,23 @@
 -- What is looked up of a board: handed back as it was; busy at now are the running tasks' columns; stamping at now changes nothing. Assumes nothing.
-use Prim.Native.Nat.{ℕ, zero, suc, _+_, _*_, _≤_, _<_}
+use Prim.Native.Nat.{ℕ, zero, suc, _≤_}
 use mathlib.Core.Path.{_≡_, refl, sym, ap, _∙_, subst, fun-ext}
 use mathlib.Core.Logic.{_⊎_, inl, inr}
-use mathlib.Core.Bool.{Bool, true, false, not}
+use mathlib.Core.Bool.{Bool, not}
 use mathlib.Core.List.{List, [], _∷_, map, List·Memᴰ·head as here, List·Memᴰ·tail as there}
 use native.Mathlib.Omega.{arith}
 use lib.Dec.{T, ltb}
 use lib.ListN.{length}
 use borrow.Author.Tests.{le-ltb}
-use Rattle.lists.specs.Lists.{_∈_, keep, some?, all?}
+use Rattle.lists.specs.Lists.{_∈_, keep, some?}
 use Rattle.lists.proofs.Bools.{bool, is-true, same-bool}
-use Rattle.lists.proofs.Members.{keep-in, in-keep, Passing, some-pass, pass-some}
+use Rattle.lists.proofs.Members.{keep-in, in-keep, some-pass, pass-some}
 use Rattle.tasks.specs.declared.Phase.{Phase}
 use Rattle.tasks.specs.declared.Phase.the-variants.{Ended, Waiting, Running}
 use Rattle.tasks.specs.declared.Task.{Task}
-use Rattle.tasks.specs.Tasks.{live, livePhase, runningPhase, covers, holds, inPhase, phaseAt, stamped, stampedAll, freeSlot}
-use Rattle.tasks.proofs.Laws.{Holds, holds-out, holds-in, covers-out, covers-in, phase-ended}
+use Rattle.tasks.specs.Tasks.{live, livePhase, runningPhase, covers, holds, inPhase, stamped, stampedAll, freeSlot}
+use Rattle.tasks.proofs.Laws.{holds-out, holds-in, covers-out, covers-in, phase-ended}
 use Rattle.columns.specs.Columns.{columns}
-use Rattle.slots.specs.Slots.{liveIn}
-use Rattle.slots.proofs.Soundness.{SoundTask, InPhase, running, waiting, Sound, sound-in}
+use Rattle.slots.proofs.Soundness.{InPhase, running, waiting, sound-in}
 use Rattle.slots.proofs.Ageing.{still}
 use Rattle.lookups.specs.Lookups.{busyColumns}
 use Rattle.lookups.proofs.Busy.{busy-held}

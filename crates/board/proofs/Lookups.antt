@@ -1,26 +1,24 @@
 -- Horizon list and busy columns of a board: what was surveyed serves them, and each refusal is the book's. Assumes nothing.
-use Prim.Native.Nat.{ℕ, zero, suc, _+_, _*_, _≤_, _<_}
-use mathlib.Core.Path.{_≡_, refl, sym, ap, ap₂, _∙_, subst}
-use mathlib.Core.Bool.{Bool, true, false, not}
+use Prim.Native.Nat.{ℕ, zero, suc, _*_, _≤_, _<_}
+use mathlib.Core.Path.{_≡_, sym, ap, _∙_}
+use mathlib.Core.Bool.{true, false}
 use mathlib.Core.List.{List, [], _∷_, map}
 use native.Mathlib.Omega.{arith}
 use lib.Dec.{T, ltb}
 use lib.ListN.{length}
 use borrow.Author.Tests.{lt-ltb, le-ltb}
-use Rattle.lists.specs.Lists.{all?, overFront}
+use Rattle.lists.specs.Lists.{all?}
 use Rattle.tasks.specs.declared.Task.{Task}
 use Rattle.planners.specs.Lent.{tasksOf, OnDevice, asked}
 use Rattle.planners.proofs.Bare.{bare, lent-tasks}
 use Rattle.slots.specs.declared.Findings.{Findings}
 use Rattle.slots.specs.Slots.{slotSound}
 use Rattle.slots.specs.Survey.{Surveyed}
-use Rattle.slots.proofs.Soundness.{Sound, sound-out, each-sound}
-use Rattle.lookups.specs.Lookups.{Strip, horizonList, stripWords, busyColumns}
+use Rattle.slots.proofs.Soundness.{sound-out, each-sound}
+use Rattle.lookups.specs.Lookups.{horizonList, busyColumns}
 use Rattle.lookups.proofs.Bare.{horizon-list-bare, busy-bare}
 use Rattle.strips.specs.Strips.{written}
 use Rattle.board.specs.declared.Board.{Board}
-use Rattle.board.specs.declared.Listed.{Listed}
-use Rattle.board.specs.declared.Counted.{Counted}
 use Rattle.board.specs.Refusals.{_when_, refusal, liveOf, soundBoard, passed, beyond, refusedInstant, horizonOf, refusedHorizon}
 use Rattle.board.specs.Calls.{orRefused, listed, listedBuffer, counted}
 use Rattle.board.proofs.Refusals.{refused-by, passed-over, sound-passes, unsound-refused}

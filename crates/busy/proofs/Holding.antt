@@ -7,7 +7,7 @@ use native.Mathlib.Omega.{arith}
 use lib.Dec.{T, leb, ltb, not-T}
 use lib.ListN.{length, getD}
 use Rattle.lists.specs.Lists.{_∈_, keep, some?, range}
-use Rattle.lists.proofs.Bools.{is-true, is-false}
+use Rattle.lists.proofs.Bools.{is-false}
 use Rattle.lists.proofs.Members.{pass-none, range-in}
 use Rattle.lists.proofs.Append.{keep-append, some-more}
 use Rattle.tasks.specs.Tasks.{holds}

@@ -1,12 +1,11 @@
 -- The walk along the visited times: none before t has a run wide enough, and one look more answers or goes on. Assumes nothing.
-use Prim.Native.Nat.{ℕ, zero, suc, _+_, _-_, _%_, _≤_, _<_}
+use Prim.Native.Nat.{ℕ, _+_, _-_, _%_, _≤_, _<_}
 use mathlib.Core.Path.{_≡_, sym, ap, _∙_, subst}
 use mathlib.Core.Logic.{_⊎_, inl, inr}
 use mathlib.Core.Option.{none, some}
 use mathlib.Core.List.{List, [], _∷_, map}
 use native.Mathlib.Omega.{arith}
 use native.Mathlib.Decide.{decLt}
-use lib.ListN.{getD}
 use Rattle.lists.specs.Lists.{_∈_}
 use Rattle.lists.proofs.Members.{map-in, in-map, range-in, in-range}
 use Rattle.ways.specs.Ways.{pair}
@@ -21,7 +20,6 @@ use Rattle.planners.specs.Planners.{release, leftEdge, visited, releasedEdges, 
 use Rattle.planners.specs.Lent.{foundOf}
 use Rattle.planners.proofs.Planners.{visited-in, now-visited, in-visited, answers-horizon, rejects-horizon}
 use Rattle.horizon.specs.declared.Seen.{Seen}
-use Rattle.releases.specs.Steps.{Rises, Pressed, edge}
 use Rattle.horizon.specs.Look.{nil, keyOf, releasedBy, KeyIs, NextIs, Looked}
 
 module _ (W now : ℕ) (ts : List Task) (a : Submission) where

@@ -5,7 +5,7 @@ use mathlib.Core.Bool.{not}
 use mathlib.Core.List.{List, map}
 use lib.Dec.{eqb}
 use lib.ListN.{length}
-use Rattle.lists.specs.Lists.{keep, some?, each, highest, rising}
+use Rattle.lists.specs.Lists.{keep, each, highest, rising}
 use Rattle.lists.proofs.Append.{some-map, keep-map, map-map}
 use Rattle.tasks.specs.declared.Task.{Task}
 use Rattle.tasks.specs.Tasks.{finish, covers, holds}

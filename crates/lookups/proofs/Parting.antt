@@ -1,9 +1,9 @@
 -- The horizon list parts the columns 1 to W, nothing left out and nothing twice, and its releases are those that Horizon visits. Assumes nothing.
-use Prim.Native.Nat.{ℕ, suc, _≤_, _<_}
-use mathlib.Core.Path.{_≡_, refl, sym, ap, _∙_, subst}
+use Prim.Native.Nat.{ℕ, _≤_, _<_}
+use mathlib.Core.Path.{_≡_, sym, _∙_, subst}
 use mathlib.Core.List.{List, map}
 use native.Mathlib.Omega.{arith}
-use Rattle.lists.specs.Lists.{_∈_, range, rising}
+use Rattle.lists.specs.Lists.{_∈_, rising}
 use Rattle.lists.proofs.Members.{map-in, in-map, range-in, in-range, rising-in, in-rising}
 use Rattle.lists.proofs.Order.{Sorted, rising-sorted, sorted-unique}
 use Rattle.tasks.specs.declared.Task.{Task}
@@ -11,7 +11,7 @@ use Rattle.tasks.specs.declared.Submission.{Submission}
 use Rattle.columns.specs.Columns.{columns}
 use Rattle.planners.specs.Planners.{release, visited}
 use Rattle.lookups.specs.Lookups.{Strip, horizonList}
-use Rattle.lookups.proofs.HorizonList.{EqualRelease, Earlier, sooner, lefter, Lying, listed-equal, horizon-ordered, each-lies, lies-once}
+use Rattle.lookups.proofs.HorizonList.{Earlier, sooner, lefter, Lying, listed-equal, horizon-ordered, each-lies, lies-once}
 
 -- A PARTING OF THE COLUMNS 1 TO W by the runs of a list
 pub record Parted (W : ℕ) (ss : List Strip) : Type 0 where

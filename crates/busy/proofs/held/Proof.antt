@@ -4,7 +4,6 @@ use mathlib.Core.Path.{_≡_}
 use mathlib.Core.Logic.{⊎-elim}
 use native.Mathlib.Omega.{arith}
 use borrow.Author.Needs.{needs}
-use Rattle.words.proofs.Columns.{column-none}
 use Rattle.busy.proofs.Holding.{HeldBy, held-none, held-marked, held-passed}
 use Rattle.busy.proofs.held.Statement.{statement}
 use Rattle.busy.proofs.held.Tie as tie

@@ -1,5 +1,5 @@
 -- `Board::horizon` meets its contract: an unsound board is answered at once, a short buffer by 17, another by the list. Assumes nothing.
-use mathlib.Core.Path.{_≡_, sym, _∙_}
+use mathlib.Core.Path.{sym, _∙_}
 use native.Mathlib.Omega.{arith}
 use borrow.Author.Tests.{not-true, not-false}
 use borrow.Author.Needs.{needs}
