@@ -7,6 +7,7 @@ ghost use Rattle.planners.specs.Planners.{release};
 ghost use Rattle.planners.specs.Lent.{OnDevice, tasksOf};
 ghost use Rattle.releases.specs.Steps.{raisedTo, inRow, Pressed};
 
+// The later of two instants.
 fn later(x: u32, y: u32) -> u32
     ensures { λ r. ⌜ r ≡ max x y ⌝ }
 {
