@@ -5,3 +5,5 @@ pub mod Submit
 pub mod Placed
 pub mod Window
 pub mod Asking
+pub mod Lookups
+pub mod Looked

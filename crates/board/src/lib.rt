@@ -16,7 +16,7 @@ ghost use Rattle.planners.specs.Lent.{foundOf, tasksOf, OnDevice, asked};
 ghost use Rattle.board.specs.declared.Answer.the-variants.{Placed};
 ghost use Rattle.board.specs.Answers.{told};
 ghost use Rattle.board.specs.Refusals.{_when_, refusal, soundBoard};
-ghost use Rattle.board.specs.Calls.{withTasks, freshBoard, created, submitted, clocked, withdrawn, opened, openedBuffer};
+ghost use Rattle.board.specs.Calls.{withTasks, freshBoard, created, submitted, clocked, withdrawn, opened, openedBuffer, listed, listedBuffer, counted};
 ghost use Rattle.board.specs.Untested.{clockedUntested, withdrawnUntested, submittedBooked, boardOf, Standing};
 use planners::Found;
 use tasks::Submission;
@@ -116,6 +116,19 @@ fn refuse(
     }
     if 64 <= count {
         return 9;
+    }
+    0
+}
+
+// The refusals of an instant after 1: 11 and 12, 0 where neither holds.
+fn refuse_instant(clock: u32, instant: u32) -> u8
+    ensures { λ r. ⌜ r ≡ refusal ((11 when ltb instant clock) ∷ (12 when ltb 2000000000 instant) ∷ []) ⌝ }
+{
+    if instant < clock {
+        return 11;
+    }
+    if instant > 2_000_000_000 {
+        return 12;
     }
     0
 }
@@ -441,6 +454,81 @@ impl Board {
             number: 0,
             count: filled.count,
             more: filled.more,
+            board: self,
+        }
+    }
+    // The horizon list in a lent buffer: 1, 17. A refusal leaves every word.
+    pub fn horizon(self, buffer: &mut [u32]) -> Listed
+        ensures { λ r. ⌜ r ≡ listed self (length (now (buffer .entry))) ⌝ }
+        ensures { λ _. ⌜ now (buffer .exit) ≡ listedBuffer self (now (buffer .entry)) ⌝ }
+    {
+        let tasks = self.tasks;
+        let v = slots::survey(self.columns, self.rows, self.now, tasks);
+        if !slots::found_sound(self.columns, self.rows, self.now, v) {
+            return Listed {
+                number: 1,
+                count: 0,
+                board: self,
+            };
+        }
+        let room = buffer.len();
+        let n = strips::strips(
+            &v.start,
+            &v.finish,
+            &v.left,
+            &v.past,
+            v.count,
+            self.columns as u32,
+            self.now,
+            buffer,
+        );
+        if room < 3 * n {
+            return Listed {
+                number: 17,
+                count: 0,
+                board: self,
+            };
+        }
+        Listed {
+            number: 0,
+            count: n,
+            board: self,
+        }
+    }
+
+    // The number of columns held at an instant: 1, 11, 12.
+    pub fn busy(self, instant: u32) -> Counted
+        ensures { λ r. ⌜ r ≡ counted self instant ⌝ }
+    {
+        let tasks = self.tasks;
+        let v = slots::survey(self.columns, self.rows, self.now, tasks);
+        if !slots::found_sound(self.columns, self.rows, self.now, v) {
+            return Counted {
+                number: 1,
+                count: 0,
+                board: self,
+            };
+        }
+        let number = refuse_instant(self.now, instant);
+        if 0 < number {
+            return Counted {
+                number: number,
+                count: 0,
+                board: self,
+            };
+        }
+        let count = busy::busy(
+            &v.start,
+            &v.finish,
+            &v.left,
+            &v.past,
+            v.count,
+            self.columns as u32,
+            instant,
+        );
+        Counted {
+            number: 0,
+            count: count,
             board: self,
         }
     }

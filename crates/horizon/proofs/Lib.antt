@@ -1,4 +1,2 @@
-pub mod Raising
-pub mod Pressing
 pub mod Looking
 pub mod Walking

@@ -12,7 +12,8 @@ use borrow.Author.Tests.{leb-true, leb-false}
 use lib.ListN.{getD}
 use Rattle.columns.specs.Columns.{Run}
 use Rattle.columns.proofs.Runs.{Lies, Longest}
-use Rattle.horizon.specs.Steps.{edge, Rises, Pressed, nil, tried, keyOf, releasedBy, Fits, KeyIs, NextIs, Looked}
+use Rattle.releases.specs.Steps.{edge, Rises, Pressed}
+use Rattle.horizon.specs.Look.{nil, tried, keyOf, releasedBy, Fits, KeyIs, NextIs, Looked}
 
 -- the step that the pass stands at, and the numbers that fit
 pub record Placed (past : List ℕ) (n from to i : ℕ) : Type 0 where

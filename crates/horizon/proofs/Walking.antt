@@ -1,12 +1,11 @@
 -- The walk along the visited times: none before t has a run wide enough, and one look more answers or goes on. Assumes nothing.
-use Prim.Native.Nat.{ℕ, zero, suc, _+_, _-_, _%_, _≤_, _<_}
+use Prim.Native.Nat.{ℕ, _+_, _-_, _%_, _≤_, _<_}
 use mathlib.Core.Path.{_≡_, sym, ap, _∙_, subst}
 use mathlib.Core.Logic.{_⊎_, inl, inr}
 use mathlib.Core.Option.{none, some}
 use mathlib.Core.List.{List, [], _∷_, map}
 use native.Mathlib.Omega.{arith}
 use native.Mathlib.Decide.{decLt}
-use lib.ListN.{getD}
 use Rattle.lists.specs.Lists.{_∈_}
 use Rattle.lists.proofs.Members.{map-in, in-map, range-in, in-range}
 use Rattle.ways.specs.Ways.{pair}
@@ -21,23 +20,7 @@ use Rattle.planners.specs.Planners.{release, leftEdge, visited, releasedEdges, 
 use Rattle.planners.specs.Lent.{foundOf}
 use Rattle.planners.proofs.Planners.{visited-in, now-visited, in-visited, answers-horizon, rejects-horizon}
 use Rattle.horizon.specs.declared.Seen.{Seen}
-use Rattle.horizon.specs.Steps.{inRow, edge, Rises, Pressed, nil, keyOf, releasedBy, KeyIs, NextIs, Looked}
-
--- every step begins at column 1 or after
-edge-from : {past : List ℕ} {n : ℕ} → Rises past n → (j : ℕ) → j < n → 1 ≤ edge past j
-unfolding edge
-edge-from o zero h = omega arith
-edge-from o (suc j) h = omega (arith, o .rises j (omega arith))
-
--- steps of a row that has the releases are steps of the releases
-pub press-release : {past at : List ℕ} {W n : ℕ} (row : List ℕ) (rel : ℕ → ℕ) → W ≤ 256 → ((k : ℕ) → k < 256 → getD row k 0 ≡ rel (suc k)) → Pressed (inRow row) W past at n → Pressed rel W past at n
-press-release {past} {at} {W} {n} row rel h f p = record { steps = p .steps; level = level; inside = p .inside; all = p .all }
-  where
-    level : (j : ℕ) → j < n → (c : ℕ) → edge past j ≤ c → c < getD past j 0 → rel c ≡ getD at j 0
-    level j b c l u =
-        let low = edge-from (p .steps) j b in
-        let z : suc (c - 1) ≡ c = omega arith in
-        sym (f (c - 1) (omega (arith, p .inside j b)) ∙ ap rel z) ∙ p .level j b c l u
+use Rattle.horizon.specs.Look.{nil, keyOf, releasedBy, KeyIs, NextIs, Looked}
 
 module _ (W now : ℕ) (ts : List Task) (a : Submission) where
   -- the times that Horizon visits

@@ -1,1 +1,4 @@
 pub mod HorizonList
+pub mod Bare
+pub mod Parting
+pub mod Busy

@@ -1,1 +1,1 @@
-// What a viewer draws of the live tasks: definitions (specs/).
+// What a viewer draws of the live tasks: definitions (specs/). The code is in `strips` and `busy`.

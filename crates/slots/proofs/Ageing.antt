@@ -113,8 +113,8 @@ aged-sound W H now i ks s l h = record {
         let q : i < finish k = omega arith in
         absurd (lib.Dec.T-not (live (stamped i k)) (subst (λ x. T (not (live x))) (aged-stands i k f q) t) (stamped-live i k q))
 
--- CLOCK TO NOW CHANGES NOTHING
-still : (W H now : ℕ) (k : Task) → SoundTask W H now k → stamped now k ≡ k
+-- at now a sound live task is as it is stamped
+pub still : (W H now : ℕ) (k : Task) → SoundTask W H now k → stamped now k ≡ k
 unfolding stamped
 still W H now k o = step (o .phase)
   where
@@ -122,6 +122,7 @@ still W H now k o = step (o .phase)
     step (running e h) = ap (λ p. inPhase p k) (phase-running now k h (o .unfinished) ∙ sym e)
     step (waiting e h) = ap (λ p. inPhase p k) (phase-waiting now k h ∙ sym e)
 
+-- CLOCK TO NOW CHANGES NOTHING
 pub aged-now : (W H now : ℕ) (ks : List Task) → Sound W H now ks → allAgedTo now ks ≡ ks
 unfolding allAgedTo
 aged-now W H now ks s = go ks (λ k m. each k m (bool (live k)))

@@ -1,5 +1,6 @@
 // The task's own record: what a slot of the board holds, and what a submission asks for.
 ghost use mathlib.Core.Path.{_≡_};
+ghost use Prim.Native.Nat.{_+_};
 ghost use Rattle.tasks.specs.Numbers.{sizeFits, timeFits};
 ghost use Rattle.tasks.specs.Tasks.{live, runningPhase, stamped, freeSlot, zeros, booked};
 
@@ -82,6 +83,13 @@ pub fn is_zeros(k: Task) -> bool
         & (k.column == 0)
 }
 
+// "its finish s + e", "summed without wrap".
+fn finish(start: u32, e: u32) -> u64
+    ensures { λ r. ⌜ r ≡ start + e ⌝ }
+{
+    start as u64 + e as u64
+}
+
 // The record with the phase that it has at an instant.
 pub fn stamp(k: Task, instant: u32) -> Task
     ensures { λ r. ⌜ r ≡ stamped instant k ⌝ }
@@ -89,7 +97,7 @@ pub fn stamp(k: Task, instant: u32) -> Task
     let mut phase = Phase::Ended;
     if instant < k.start {
         phase = Phase::Waiting;
-    } else if (instant as u64) < k.start as u64 + k.e as u64 {
+    } else if (instant as u64) < finish(k.start, k.e) {
         phase = Phase::Running;
     }
     Task {

@@ -5,8 +5,9 @@ use native.Mathlib.Omega.{arith}
 use borrow.Author.Needs.{needs}
 use Rattle.planners.specs.Planners.{release}
 use Rattle.planners.specs.Lent.{tasksOf, asked}
-use Rattle.horizon.specs.Steps.{Pressed}
-use Rattle.horizon.proofs.Walking.{press-release, Visits, visit-first, visit-found, visit-nothing, visit-next}
+use Rattle.releases.specs.Steps.{Pressed}
+use Rattle.releases.proofs.Pressing.{press-release}
+use Rattle.horizon.proofs.Walking.{Visits, visit-first, visit-found, visit-nothing, visit-next}
 use Rattle.horizon.proofs.horizon.Statement.{statement}
 use Rattle.horizon.proofs.horizon.Tie as tie
 

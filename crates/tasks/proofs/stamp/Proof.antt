@@ -1,18 +1,14 @@
 -- `tasks::stamp` meets its contract: each way through the two tests writes the phase that they decide. Assumes nothing.
+use Prim.Native.Nat.{_≤_, _<_}
+use native.Mathlib.Omega.{arith}
 use borrow.Author.Needs.{needs}
-use Rattle.tasks.specs.Tasks.{stamped}
+use Rattle.tasks.specs.Tasks.{finish, stamped}
 use Rattle.tasks.proofs.Laws.{phase-waiting, phase-running, phase-ended}
 use Rattle.tasks.proofs.stamp.Statement.{statement}
 use Rattle.tasks.proofs.stamp.Tie as tie
 
-cast-if2 : tie.Need-cast-if2
-cast-if2 c = search needs
-
-cast-if2-2 : tie.Need-cast-if2-2
-cast-if2-2 c = search needs
-
-add-if2 : tie.Need-add-if2
-add-if2 c = search needs
+finish-requires : tie.Need-finish-requires
+finish-requires c κs = search needs
 
 returns : tie.Need-returns
 unfolding stamped
@@ -20,11 +16,17 @@ returns c = rw (phase-waiting (c .before .before .args .instant) (c .before .bef
 
 returns-2 : tie.Need-returns-2
 unfolding stamped
-returns-2 c = let a = c .before .before .before .before .before .args in rw (phase-running (a .instant) (a .k) (c .before .before .before .if1 .left) (c .if2 .taken))
+returns-2 c =
+    let a = c .before .before .before .before .args in
+    let h : a .instant < finish (a .k) = omega (arith, c .before .finish .ensures, c .if2 .taken) in
+    rw (phase-running (a .instant) (a .k) (c .before .before .if1 .left) h)
 
 returns-3 : tie.Need-returns-3
 unfolding stamped
-returns-3 c = let a = c .before .before .before .before .before .args in rw (phase-ended (a .instant) (a .k) (c .if2 .left))
+returns-3 c =
+    let a = c .before .before .before .before .args in
+    let h : finish (a .k) ≤ a .instant = omega (arith, c .before .finish .ensures, c .if2 .left) in
+    rw (phase-ended (a .instant) (a .k) h)
 
 pub stamp-spec : {M : Type 1} → statement M
-stamp-spec = tie.close (tie.spec cast-if2 cast-if2-2 add-if2 returns returns-2 returns-3)
+stamp-spec = tie.close (tie.spec finish-requires returns returns-2 returns-3)

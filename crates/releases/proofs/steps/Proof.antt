@@ -1,11 +1,11 @@
--- `horizon::steps` meets its contract: the loop passes the columns one by one. Assumes nothing.
+-- `releases::steps` meets its contract: the loop passes the columns one by one. Assumes nothing.
 use Prim.Native.Nat.{_-_}
 use mathlib.Core.Logic.{⊎-elim}
 use native.Mathlib.Omega.{arith}
 use borrow.Author.Needs.{needs}
-use Rattle.horizon.proofs.Pressing.{Pressing, press-none, press-new, press-on, press-all}
-use Rattle.horizon.proofs.steps.Statement.{statement}
-use Rattle.horizon.proofs.steps.Tie as tie
+use Rattle.releases.proofs.Pressing.{Pressing, press-none, press-new, press-on, press-all}
+use Rattle.releases.proofs.steps.Statement.{statement}
+use Rattle.releases.proofs.steps.Tie as tie
 
 abbrev Inv-loop : tie.InvT-loop
 Inv-loop row width past₀ at₀ n₀ c₀ x₀ past at n c x = Pressing row width past at n c x
@@ -53,7 +53,7 @@ loop-less : tie.Need-loop-less Inv-loop μ-loop
 loop-less c = search needs
 
 loop-again : tie.Need-loop-again Inv-loop μ-loop
-loop-again c = ⊎-elim (λ w. rw (w .1) (press-new (c .before .before .before .loop .inv) (omega arith))) (λ w. rw (w .1) (press-on (c .before .before .before .loop .inv) (omega arith) (w .0 .left))) (c .if1 .came)
+loop-again c = ⊎-elim (λ w. rw (w .1) (press-new (c .before .before .before .loop .inv) (omega arith) (w .0 .taken))) (λ w. rw (w .1) (press-on (c .before .before .before .loop .inv) (omega arith) (w .0 .left))) (c .if1 .came)
 
 add-past-2 : tie.Need-add-past-2 Inv-loop μ-loop
 add-past-2 c = search needs

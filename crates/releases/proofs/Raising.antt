@@ -5,7 +5,6 @@ use mathlib.Core.Logic.{_⊎_, inl, inr}
 use mathlib.Core.Bool.{not, cond, _&&_}
 use mathlib.Core.List.{List, [], _∷_, _++_, map, map-append, append-nil}
 use native.Mathlib.Omega.{arith}
-use native.Mathlib.Nat.{zero-add}
 use native.Mathlib.Decide.{decLt, ℕ-discrete as decEq}
 use lib.Dec.{T, leb, ltb}
 use borrow.Author.Tests.{le-leb, lt-leb, lt-ltb, le-ltb}
@@ -14,12 +13,13 @@ use lib.Seq.{getD-set-same, getD-set-other}
 use Rattle.lists.specs.Lists.{keep, range, highest}
 use Rattle.lists.proofs.Bools.{bool, is-true, is-false}
 use Rattle.lists.proofs.Members.{keep-yes, keep-no}
-use Rattle.lists.proofs.Append.{keep-append, range-more}
+use Rattle.lists.proofs.Append.{keep-append}
 use Rattle.tasks.specs.declared.Task.{Task}
 use Rattle.tasks.specs.Tasks.{finish, covers}
 use Rattle.planners.specs.Planners.{release}
 use Rattle.planners.specs.Lent.{OnDevice, taskAt, tasksOf}
-use Rattle.horizon.specs.Steps.{raisedTo}
+use Rattle.planners.proofs.Lent.{tasks-more}
+use Rattle.releases.specs.Steps.{raisedTo}
 
 raised-in : (f l r k x : ℕ) → l ≤ suc k → suc k < r → raisedTo f l r k x ≡ max f x
 raised-in f l r k x a b = rw (le-leb l (suc k) a, lt-ltb (suc k) r b)
@@ -88,12 +88,6 @@ release-more now ts u c = ap (λ l. highest now (map finish l)) (keep-append (co
         rw (none, is-false (covers c u) t) (ap (λ l. highest now (map finish l)) (append-nil (keep (covers c) ts)))
 
 module _ (s f l r : List ℕ) where
-  tasks-more : (n : ℕ) → tasksOf (n + 1) s f l r ≡ tasksOf n s f l r ++ (taskAt s f l r n ∷ [])
-  unfolding tasksOf
-  tasks-more n =
-      ap (map (taskAt s f l r)) (range-more 0 n) ∙ map-append (taskAt s f l r) (range 0 n) ((0 + n) ∷ [])
-      ∙ ap (λ i. map (taskAt s f l r) (range 0 n) ++ (taskAt s f l r i ∷ [])) (zero-add n)
-
   -- the row has the release of each column over the first i tasks
   pub record Released (now : ℕ) (row : List ℕ) (i : ℕ) : Type 0 where
     pub room : length row ≡ 256
@@ -110,7 +104,7 @@ module _ (s f l r : List ℕ) where
   release-one {now} {W} {n} {row} {row′} {i} o h p e g = record {
     room = e;
     same = λ k b. g k b ∙ ap (raisedTo (getD f i 0) (getD l i 0) (getD r i 0) k) (p .same k b)
-        ∙ sym (ap (λ ts. release now ts (suc k)) (tasks-more i) ∙ release-more now (tasksOf i s f l r) (taskAt s f l r i) (suc k) ∙ plain k);
+        ∙ sym (ap (λ ts. release now ts (suc k)) (tasks-more s f l r i) ∙ release-more now (tasksOf i s f l r) (taskAt s f l r i) (suc k) ∙ plain k);
   }
     where
       past : getD l i 0 + (getD r i 0 - getD l i 0) ≡ getD r i 0

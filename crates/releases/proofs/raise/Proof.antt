@@ -1,10 +1,10 @@
--- `horizon::raise` meets its contract: the loop raises the columns one by one. Assumes nothing.
+-- `releases::raise` meets its contract: the loop raises the columns one by one. Assumes nothing.
 use Prim.Native.Nat.{_≤_, _-_}
 use native.Mathlib.Omega.{arith}
 use borrow.Author.Needs.{needs}
-use Rattle.horizon.proofs.Raising.{Raised, raise-none, raise-one, raise-all}
-use Rattle.horizon.proofs.raise.Statement.{statement}
-use Rattle.horizon.proofs.raise.Tie as tie
+use Rattle.releases.proofs.Raising.{Raised, raise-none, raise-one, raise-all}
+use Rattle.releases.proofs.raise.Statement.{statement}
+use Rattle.releases.proofs.raise.Tie as tie
 
 abbrev Inv-loop : tie.InvT-loop
 Inv-loop row₀ finish left past k₀ end row k = (k ≤ end) × (end ≤ 256) × Raised row₀ row finish left k

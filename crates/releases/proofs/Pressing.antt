@@ -7,7 +7,7 @@ use native.Mathlib.Numerals.{add-one}
 use native.Mathlib.Decide.{decLe, ℕ-discrete as decEq}
 use lib.ListN.{length, set, getD, length-set}
 use lib.Seq.{getD-set-same, getD-set-other}
-use Rattle.horizon.specs.Steps.{inRow, edge, Pressed}
+use Rattle.releases.specs.Steps.{inRow, edge, Rises, Pressed}
 
 -- n steps are done, of columns up to c
 pub record Done (row past at : List ℕ) (n c : ℕ) : Type 0 where
@@ -25,6 +25,7 @@ pub record Pressing (row : List ℕ) (W : ℕ) (past at : List ℕ) (n c x : ℕ
   pub begun : edge past n ≤ c
   pub flat : (k : ℕ) → edge past n ≤ k → k ≤ c → inRow row k ≡ x
   pub done : Done row past at n c
+  pub ended : (j : ℕ) → j < n → inRow row (getD past j 0) ≡ getD at j 0 → ⊥
 
 pub press-none : (row past at : List ℕ) (W : ℕ) → length past ≡ 256 → length at ≡ 256 → 1 ≤ W → W ≤ 256 → Pressing row W past at 0 1 (getD row 0 0)
 unfolding edge
@@ -37,6 +38,7 @@ press-none row past at W a b l h = record {
   begun = omega arith;
   flat = λ k p q. let e : k ≡ 1 = omega arith in rw e;
   done = record { rises = λ j z. absurd (omega arith); within = λ j z. absurd (omega arith); level = λ j z k p q. absurd (omega arith) };
+  ended = λ j z. absurd (omega arith);
 }
 
 -- a step is not moved where a later one is stored
@@ -81,9 +83,15 @@ module _ {row : List ℕ} {W : ℕ} {past at : List ℕ} {n c x : ℕ} (p : Pres
           p .done .level j (omega arith) k (subst (λ e. e ≤ k) (edge-kept past n (c + 1) j (omega arith)) l) (subst (λ e. k < e) (other j z) b)
           ∙ sym (getD-set-other at n j x 0 z)
 
+  -- where a step ended, it still does
+  ended-kept : (v j : ℕ) → j < n → inRow row (getD (set past n v) j 0) ≡ getD (set at n x) j 0 → ⊥
+  ended-kept v j h e =
+      p .ended j h
+      (ap (inRow row) (sym (getD-set-other past n j v 0 (λ z. omega arith))) ∙ e ∙ getD-set-other at n j x 0 (λ z. omega arith))
+
   -- ONE COLUMN MORE, with another release: a step begins
-  pub press-new : c < W → Pressing row W (set past n (c + 1)) (set at n x) (n + 1) (c + 1) (getD row c 0)
-  press-new h = record {
+  pub press-new : c < W → (x ≡ getD row c 0 → ⊥) → Pressing row W (set past n (c + 1)) (set at n x) (n + 1) (c + 1) (getD row c 0)
+  press-new h differs = record {
     room-past = length-set past n (c + 1) ∙ p .room-past;
     room-at = length-set at n x ∙ p .room-at;
     upto = omega arith;
@@ -95,8 +103,17 @@ module _ {row : List ℕ} {W : ℕ} {past at : List ℕ} {n c x : ℕ} (p : Pres
         let e : k - 1 ≡ c = omega arith in
         rw e;
     done = subst (λ m. Done row (set past n (c + 1)) (set at n x) m (c + 1)) (sym (add-one n)) stored;
+    ended = λ j z. ended j z (decEq j n);
   }
     where
+      ended : (j : ℕ) → j < n + 1 → Dec (j ≡ n) → inRow row (getD (set past n (c + 1)) j 0) ≡ getD (set at n x) j 0 → ⊥
+      ended j z (no o) e = ended-kept (c + 1) j (omega arith) e
+      ended j z (yes o) e =
+          let past-is : getD (set past n (c + 1)) j 0 ≡ c + 1 = ap (λ i. getD (set past n (c + 1)) i 0) o ∙ getD-set-same past n (c + 1) 0 (omega (arith, p .room-past, p .below, p .upto, p .wide)) in
+          let at-is : getD (set at n x) j 0 ≡ x = ap (λ i. getD (set at n x) i 0) o ∙ getD-set-same at n x 0 (omega (arith, p .room-at, p .below, p .upto, p .wide)) in
+          let back : c + 1 - 1 ≡ c = omega arith in
+          differs (sym (sym (ap (inRow row) past-is ∙ ap (λ i. getD row i 0) back) ∙ e ∙ at-is))
+
       begins : edge (set past n (c + 1)) (n + 1) ≡ c + 1
       begins = ap (edge (set past n (c + 1))) (add-one n) ∙ edge-next past n (c + 1) (omega (arith, p .room-past, p .below, p .upto, p .wide))
 
@@ -111,6 +128,7 @@ module _ {row : List ℕ} {W : ℕ} {past at : List ℕ} {n c x : ℕ} (p : Pres
     begun = rw begins (omega (arith, p .begun));
     flat = λ k l b. flat k (subst (λ i. i ≤ k) begins l) b (decLe k c);
     done = record { rises = λ j z. stored .rises j (omega arith); within = λ j z. stored .within j (omega arith); level = λ j z. stored .level j (omega arith) };
+    ended = λ j z. ended-kept (c + 1) j z;
   }
     where
       begins : edge (set past n (c + 1)) n ≡ edge past n
@@ -129,4 +147,33 @@ module _ {row : List ℕ} {W : ℕ} {past at : List ℕ} {n c x : ℕ} (p : Pres
         level = stored .level;
         inside = λ j h. omega (arith, stored .within j h);
         all = edge-next past n (c + 1) (omega (arith, p .room-past, p .below, p .upto, p .wide)) ∙ (let z : c + 1 ≡ suc W = omega arith in z);
+        ends = λ j h. ends j h (decEq j n);
       }))
+    where
+      ends : (j : ℕ) → j < suc n → Dec (j ≡ n) → getD (set past n (c + 1)) j 0 ≤ W → inRow row (getD (set past n (c + 1)) j 0) ≡ getD (set at n x) j 0 → ⊥
+      ends j h (no o) l = ended-kept (c + 1) j (omega arith)
+      ends j h (yes o) l =
+          let past-is : getD (set past n (c + 1)) j 0 ≡ c + 1 = ap (λ i. getD (set past n (c + 1)) i 0) o ∙ getD-set-same past n (c + 1) 0 (omega (arith, p .room-past, p .below, p .upto, p .wide)) in
+          absurd (omega arith)
+
+-- every step begins at column 1 or after
+pub edge-from : {past : List ℕ} {n : ℕ} → Rises past n → (j : ℕ) → j < n → 1 ≤ edge past j
+unfolding edge
+edge-from o zero h = omega arith
+edge-from o (suc j) h = omega (arith, o .rises j (omega arith))
+
+-- steps of a row that has the releases are steps of the releases
+pub press-release : {past at : List ℕ} {W n : ℕ} (row : List ℕ) (rel : ℕ → ℕ) → W ≤ 256 → ((k : ℕ) → k < 256 → getD row k 0 ≡ rel (suc k)) → Pressed (inRow row) W past at n → Pressed rel W past at n
+press-release {past} {at} {W} {n} row rel h f p = record { steps = p .steps; level = level; inside = p .inside; all = p .all; ends = ends }
+  where
+    ends : (j : ℕ) → j < n → getD past j 0 ≤ W → rel (getD past j 0) ≡ getD at j 0 → ⊥
+    ends j b l e =
+        let low = p .steps .rises j b in
+        let z : suc (getD past j 0 - 1) ≡ getD past j 0 = omega arith in
+        p .ends j b l (f (getD past j 0 - 1) (omega arith) ∙ ap rel z ∙ e)
+
+    level : (j : ℕ) → j < n → (c : ℕ) → edge past j ≤ c → c < getD past j 0 → rel c ≡ getD at j 0
+    level j b c l u =
+        let low = edge-from (p .steps) j b in
+        let z : suc (c - 1) ≡ c = omega arith in
+        sym (f (c - 1) (omega (arith, p .inside j b)) ∙ ap rel z) ∙ p .level j b c l u

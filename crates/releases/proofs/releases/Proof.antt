@@ -1,11 +1,11 @@
--- `horizon::releases` meets its contract: the loop takes the tasks one by one. Assumes nothing.
+-- `releases::releases` meets its contract: the loop takes the tasks one by one. Assumes nothing.
 use Prim.Native.Nat.{_≤_, _-_}
 use native.Mathlib.Omega.{arith}
 use lib.ListN.{length-replicate, getD-replicate}
 use borrow.Author.Needs.{needs}
-use Rattle.horizon.proofs.Raising.{Released, release-none, release-one, release-all}
-use Rattle.horizon.proofs.releases.Statement.{statement}
-use Rattle.horizon.proofs.releases.Tie as tie
+use Rattle.releases.proofs.Raising.{Released, release-none, release-one, release-all}
+use Rattle.releases.proofs.releases.Statement.{statement}
+use Rattle.releases.proofs.releases.Tie as tie
 
 abbrev Inv-loop : tie.InvT-loop
 Inv-loop start finish left past count width clock row₀ i₀ row i = (i ≤ count) × Released start finish left past clock row i

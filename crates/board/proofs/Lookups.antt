@@ -1,0 +1,112 @@
+-- Horizon list and busy columns of a board: what was surveyed serves them, and each refusal is the book's. Assumes nothing.
+use Prim.Native.Nat.{ℕ, zero, suc, _*_, _≤_, _<_}
+use mathlib.Core.Path.{_≡_, sym, ap, _∙_}
+use mathlib.Core.Bool.{true, false}
+use mathlib.Core.List.{List, [], _∷_, map}
+use native.Mathlib.Omega.{arith}
+use lib.Dec.{T, ltb}
+use lib.ListN.{length}
+use borrow.Author.Tests.{lt-ltb, le-ltb}
+use Rattle.lists.specs.Lists.{all?}
+use Rattle.tasks.specs.declared.Task.{Task}
+use Rattle.planners.specs.Lent.{tasksOf, OnDevice, asked}
+use Rattle.planners.proofs.Bare.{bare, lent-tasks}
+use Rattle.slots.specs.declared.Findings.{Findings}
+use Rattle.slots.specs.Slots.{slotSound}
+use Rattle.slots.specs.Survey.{Surveyed}
+use Rattle.slots.proofs.Soundness.{sound-out, each-sound}
+use Rattle.lookups.specs.Lookups.{horizonList, busyColumns}
+use Rattle.lookups.proofs.Bare.{horizon-list-bare, busy-bare}
+use Rattle.strips.specs.Strips.{written}
+use Rattle.board.specs.declared.Board.{Board}
+use Rattle.board.specs.Refusals.{_when_, refusal, liveOf, soundBoard, passed, beyond, refusedInstant, horizonOf, refusedHorizon}
+use Rattle.board.specs.Calls.{orRefused, listed, listedBuffer, counted}
+use Rattle.board.proofs.Refusals.{refused-by, passed-over, sound-passes, unsound-refused}
+use Rattle.board.proofs.Kept.{SoundBoard}
+use Rattle.board.proofs.Submit.{on-device}
+
+pub listed-unsound : (b : Board) (buffer : List ℕ) → soundBoard b ≡ false
+    → (record { number = 1; count = 0; board = b } ≡ listed b (length buffer)) × (buffer ≡ listedBuffer b buffer)
+unfolding listed listedBuffer refusedHorizon orRefused
+listed-unsound b buffer e =
+    let z = unsound-refused b ((17 when ltb (length buffer) (3 * length (horizonOf b))) ∷ []) e in
+    (rw z, rw z)
+
+pub counted-unsound : (b : Board) (i : ℕ) → soundBoard b ≡ false → counted b i ≡ record { number = 1; count = 0; board = b }
+unfolding counted refusedInstant orRefused
+counted-unsound b i e = rw (unsound-refused b (passed b i ∷ beyond i ∷ []) e)
+
+module _ (b : Board) (v : Findings) (o : Surveyed (b .columns) (b .rows) (b .now) (b .tasks) v) (good : soundBoard b ≡ true) where
+  -- the tasks as they are lent
+  abbrev ts : List Task
+  ts = tasksOf (v .count) (v .start) (v .finish) (v .left) (v .past)
+
+  every : T (all? (slotSound (b .columns) (b .rows) (b .now)) (b .tasks))
+  every = each-sound (b .columns) (b .rows) (b .now) (b .tasks) (rw good tt)
+
+  s : SoundBoard b
+  s = sound-out (b .columns) (b .rows) (b .now) (b .tasks) (rw good tt)
+
+  lent : ts ≡ map bare (liveOf b)
+  lent = lent-tasks (v .count) (v .start) (v .finish) (v .left) (v .past) (liveOf b) (o .count) (o .starts) (o .finishes every) (o .lefts) (o .pasts)
+
+  -- they lie on the device
+  pub lent-on : OnDevice (b .columns) (v .count) (v .start) (v .finish) (v .left) (v .past)
+  lent-on = on-device b 0 (asked 0 0 0) v o good
+
+  pub has-columns : 1 ≤ b .columns
+  has-columns = s .columns .low
+
+  -- THE HORIZON LIST AND THE BUSY COLUMNS of what is lent are the board's
+  horizon-lent : horizonList (b .columns) (b .now) ts ≡ horizonOf b
+  horizon-lent = ap (horizonList (b .columns) (b .now)) lent ∙ horizon-list-bare (liveOf b) (b .columns) (b .now)
+
+  busy-lent : (i : ℕ) → busyColumns (b .columns) ts i ≡ busyColumns (b .columns) (liveOf b) i
+  busy-lent i = ap (λ us. busyColumns (b .columns) us i) lent ∙ busy-bare (liveOf b) (b .columns) i
+
+  module _ (buffer : List ℕ) {n : ℕ} {after : List ℕ} (e : n ≡ length (horizonList (b .columns) (b .now) ts)) (w : after ≡ written (horizonList (b .columns) (b .now) ts) buffer) where
+    is-length : n ≡ length (horizonOf b)
+    is-length = e ∙ ap length horizon-lent
+
+    is-written : after ≡ written (horizonOf b) buffer
+    is-written = w ∙ ap (λ ss. written ss buffer) horizon-lent
+
+    refused : refusedHorizon b (length buffer) ≡ refusal ((17 when ltb (length buffer) (3 * length (horizonOf b))) ∷ [])
+    unfolding refusedHorizon
+    refused = sound-passes b ((17 when ltb (length buffer) (3 * length (horizonOf b))) ∷ []) good
+
+    -- 17, and every word as it was
+    pub listed-short : length buffer < 3 * n → (record { number = 17; count = 0; board = b } ≡ listed b (length buffer)) × (after ≡ listedBuffer b buffer)
+    unfolding listed listedBuffer orRefused written
+    listed-short h =
+        let l : length buffer < 3 * length (horizonOf b) = omega (arith, is-length) in
+        let t = lt-ltb (length buffer) (3 * length (horizonOf b)) l in
+        let z = refused ∙ refused-by 17 (ltb (length buffer) (3 * length (horizonOf b))) [] t in
+        (rw z, rw z (is-written ∙ rw t))
+
+    -- the number of runs, and the list over the front
+    pub listed-done : 3 * n ≤ length buffer → (record { number = 0; count = n; board = b } ≡ listed b (length buffer)) × (after ≡ listedBuffer b buffer)
+    unfolding listed listedBuffer orRefused written refusal
+    listed-done h =
+        let l : 3 * length (horizonOf b) ≤ length buffer = omega (arith, is-length) in
+        let t = le-ltb (length buffer) (3 * length (horizonOf b)) l in
+        let z = refused ∙ passed-over 17 (ltb (length buffer) (3 * length (horizonOf b))) [] t in
+        (rw (z, is-length), rw z (is-written ∙ rw t))
+
+  module _ (i : ℕ) {r : ℕ} (e : r ≡ refusal ((11 when ltb i (b .now)) ∷ (12 when ltb 2000000000 i) ∷ [])) where
+    is-refused : refusedInstant b i ≡ r
+    unfolding refusedInstant
+    is-refused = sound-passes b (passed b i ∷ beyond i ∷ []) good ∙ sym e
+
+    -- 11, 12
+    pub counted-refused : 0 < r → counted b i ≡ record { number = r; count = 0; board = b }
+    counted-refused h = go r is-refused h
+      where
+        go : (k : ℕ) → refusedInstant b i ≡ k → 0 < k → counted b i ≡ record { number = k; count = 0; board = b }
+        go zero z l = absurd (omega arith)
+        go (suc k) z l = unfold counted orRefused in rw z
+
+    -- the count
+    pub counted-done : {n : ℕ} → r ≡ 0 → n ≡ busyColumns (b .columns) ts i → record { number = 0; count = n; board = b } ≡ counted b i
+    unfolding counted orRefused
+    counted-done {n} z q = let y = is-refused ∙ z in rw (y, q, busy-lent i)
