@@ -1,5 +1,6 @@
 #!/usr/bin/env python3
-"""table.py OURS RUST: runs both in turn, best of five of user + system time, and prints the ratios ours / Rust."""
+"""table.py OURS RUST: runs both in turn, best of five of user + system time, and prints the ratios ours / Rust.
+For openings also ours a second, and the time to the first."""
 import os, platform, resource, subprocess, sys
 
 OURS, RUST = sys.argv[1:3]
