@@ -1,6 +1,6 @@
 #!/bin/bash
-# bench.sh: our planners beside a plain Rust program of the same methods (tests/bench/baseline.rs), as ratios of time.
-# One command, about half a minute. Both draw the same sessions; the checksums of all answers must agree.
+# bench.sh: our planners and openings beside a plain Rust program (tests/bench/baseline.rs), as ratios of time.
+# One command, about a minute. Both draw the same sessions and ask for the same openings; the checksums of all answers must agree.
 # On x86-64 ours is target/bin/bench, as `rt check bench` built it; elsewhere ../shared/tools/native-build.sh compiles it.
 set -euo pipefail
 root=$(cd "$(dirname "$0")/.." && pwd -P)

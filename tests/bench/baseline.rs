@@ -1,6 +1,7 @@
 // The planner of document 01 as one would first write it in Rust: a board changed in place, no test of its soundness.
 // Usage: baseline PLANNER WORKLOAD ROUNDS [stats]. It prints the checksum of all answers; workload 4 by Full is the method
-// "every column at every visited time" on a board where no place exists.
+// "every column at every visited time" on a board where no place exists. For workloads 5 and 6, lists of openings, PLANNER is
+// the number of the board.
 use std::env;
 
 #[derive(Clone, Copy)]
@@ -190,6 +191,38 @@ impl Device {
         }
         None
     }
+
+    // the openings after a pair, (start, column) each, as many as `out` has room for: how many, and whether a further one remains
+    fn openings(&self, job: &Job, after: (u32, u32), out: &mut [u32]) -> (usize, bool) {
+        let (width, need) = (self.width as usize, job.width as usize);
+        let last = job.deadline - job.exec;
+        let room = out.len() / 2;
+        let (mut t, mut from) = if after.0 < self.now { (self.now, 0) } else { (after.0, after.1 as usize) };
+        let mut n = 0;
+        while t <= last {
+            let mut taken = [false; 256];
+            for k in self.live().filter(|k| t < k.finish() && k.start < t + job.exec) {
+                taken[k.column as usize - 1..k.end() as usize - 1].fill(true);
+            }
+            let (mut run, mut open) = (0, from > 0);
+            for (c, &held) in taken[..width].iter().enumerate().skip(from) {
+                run = if held { 0 } else { run + 1 };
+                if run >= need {
+                    if n == room {
+                        return (n, true);
+                    }
+                    out[2 * n] = t;
+                    out[2 * n + 1] = (c + 2 - need) as u32;
+                    n += 1;
+                    open = true;
+                }
+            }
+            let next = if open { Some(t + 1) } else { self.live().map(|k| k.finish()).filter(|&f| f > t).min() };
+            let Some(next) = next else { break };
+            (t, from) = (next, 0);
+        }
+        (n, false)
+    }
 }
 
 struct Dice(u64);
@@ -268,10 +301,89 @@ fn stuck(planner: u8, rounds: u32) -> u64 {
     })
 }
 
+// an empty board; 64 tasks of drawn sizes; 64 tasks of all columns, one after the other
+fn empty() -> Device {
+    Device::new(256, 64)
+}
+
+fn scattered() -> Device {
+    let mut device = empty();
+    let mut dice = Dice(1);
+    for id in 1..=64 {
+        let rolls: [u64; 5] = std::array::from_fn(|_| dice.roll());
+        let (exec, width) = (between(rolls[1], 200, 1000), between(rolls[3], 1, 16) as u16);
+        device.submit(3, Job { id, exec, deadline: 2_000_000_000, width, height: 1 });
+    }
+    device
+}
+
+fn walled() -> Device {
+    let mut device = empty();
+    for id in 1..=64 {
+        device.submit(3, Job { id, exec: 1_000_000, deadline: 2_000_000_000, width: 256, height: 1 });
+    }
+    device
+}
+
+fn last_pair(out: &[u32], count: usize) -> (u32, u32) {
+    if count == 0 { (0, 0) } else { (out[2 * count - 2], out[2 * count - 1]) }
+}
+
+fn count(sum: u64, count: usize, more: bool, pair: (u32, u32)) -> u64 {
+    sum % 1_000_000_007 * 31 + count as u64 * 5 + more as u64 * 3 + pair.0 as u64 + pair.1 as u64 * 7
+}
+
+fn wanted(width: u16, exec: u32, deadline: u32) -> Job {
+    Job { id: 1000, exec, deadline, width, height: 1 }
+}
+
+// openings asked for again and again; `on`: those after the last pair given while a further one remains
+fn asking(mut device: Device, job: Job, from: (u32, u32), on: bool, out: &mut [u32], rounds: u32, stats: bool) -> u64 {
+    let (mut sum, mut pair, mut openings) = (0, from, 0);
+    for round in 0..rounds {
+        device.now = round % 8;
+        let (n, more) = device.openings(&job, pair, out);
+        let last = last_pair(out, n);
+        sum = count(sum, n, more, last);
+        openings += n;
+        pair = if on && more { last } else { from };
+    }
+    if stats {
+        eprintln!("{openings} openings");
+    }
+    let total = out.iter().fold(0, |sum, &x| sum % 1_000_000_007 * 31 + x as u64);
+    sum % 1_000_000_007 + total % 1_000_000_007
+}
+
+fn pages(board: u8, rounds: u32, stats: bool) -> u64 {
+    let (device, job) = match board {
+        0 => (empty(), wanted(1, 1, 2_000_000_000)),
+        1 => (scattered(), wanted(4, 20, 2092)),
+        _ => (empty(), wanted(33, 1, 2_000_000_000)),
+    };
+    asking(device, job, (0, 0), true, &mut [0; 16384], rounds, stats)
+}
+
+fn firsts(board: u8, rounds: u32, stats: bool) -> u64 {
+    let (device, job, from) = match board {
+        0 => (empty(), wanted(1, 1, 2_000_000_000), (0, 0)),
+        1 => (scattered(), wanted(8, 20, 2_000_000_000), (0, 0)),
+        2 => (walled(), wanted(1, 1, 2_000_000_000), (0, 0)),
+        _ => (walled(), wanted(256, 1, 2_000_000_000), (1_999_999_998, 1)),
+    };
+    asking(device, job, from, false, &mut [0; 2], rounds, stats)
+}
+
 fn main() {
     let words: Vec<String> = env::args().collect();
     let number = |i: usize| words[i].parse::<u32>().expect("a number");
     let (planner, workload, rounds) = (number(1) as u8, number(2) as usize, number(3));
-    let sum = if workload < 3 { session(planner, workload, rounds, words.len() > 4) } else { stuck(planner, rounds) };
+    let stats = words.len() > 4;
+    let sum = match workload {
+        4 => stuck(planner, rounds),
+        5 => pages(planner, rounds, stats),
+        6 => firsts(planner, rounds, stats),
+        _ => session(planner, workload, rounds, stats),
+    };
     println!("{sum}");
 }

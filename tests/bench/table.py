@@ -1,10 +1,13 @@
 #!/usr/bin/env python3
-"""table.py OURS RUST: runs both in turn, best of five of user + system time, and prints the ratios ours / Rust."""
+"""table.py OURS RUST: runs both in turn, best of five of user + system time, and prints the ratios ours / Rust.
+For openings also ours a second, and the time to the first."""
 import os, platform, resource, subprocess, sys
 
 OURS, RUST = sys.argv[1:3]
 PLANNERS = ["Reference", "Horizon", "Stuffing", "Full"]
 WORKLOADS = ["0 the paper's, 96 columns", "1 256 columns, ~30 live", "2 256 columns, 55-63 live"]
+PAGES = ["empty, w 1", "64 live, w 4", "empty, w 33"]
+FIRSTS = ["empty", "64 live, w 8", "blocked for 64,000,000 ticks", "the last one, at 1,999,999,999"]
 TURNS = 5
 
 
@@ -34,9 +37,9 @@ def enough(run, planner, workload, seconds=0.15):
     return rounds
 
 
-def pair(planner, workload):
+def pair(planner, workload, rounds=0):
     """Ratio of the best times, seconds a round of ours, and whether the checksums agree."""
-    rounds = enough(rust, planner, workload)
+    rounds = rounds or enough(rust, planner, workload)
     best, agree = [9e9, 9e9], True
     for _ in range(TURNS):
         sums = []
@@ -46,6 +49,12 @@ def pair(planner, workload):
             best[i] = min(best[i], took)
         agree = agree and sums[0] == sums[1]
     return best[0] / best[1], best[0] / rounds, agree
+
+
+def openings(board, rounds):
+    """How many openings so many rounds of workload 5 write."""
+    run = subprocess.run([RUST, str(board), "5", str(rounds), "stats"], capture_output=True, text=True, check=True)
+    return int(run.stderr.split()[0])
 
 
 def machine():
@@ -83,5 +92,18 @@ for p, live in enumerate((0, 16, 32, 64)):
     rounds = enough(ours, p, 3)
     took = min(ours(p, 3, rounds)[1] for _ in range(TURNS)) / rounds
     print(f"{live:6}: {took / submission:.2f} ({took * 1e9:.0f} ns)")
+print("openings, 8,192 into a buffer of 16,384 words, asked on; ours a second, and time of ours / time of Rust:")
+for b, label in enumerate(PAGES):
+    rounds = max(enough(ours, b, 5), enough(rust, b, 5))
+    ratio, each, agree = pair(b, 5, rounds)
+    all_agree = all_agree and agree
+    rate = openings(b, rounds) / rounds / each / 1e6
+    print(f"  {label:32}{rate:6.0f} million{ratio:8.2f}" + ("" if agree else "!") + ("  (bar: 40, goal: 200 million)" if b == 0 else ""), flush=True)
+print("the first opening, into a buffer of two words; ours, and time of ours / time of Rust:")
+for b, label in enumerate(FIRSTS):
+    rounds = max(enough(ours, b, 6), enough(rust, b, 6))
+    ratio, each, agree = pair(b, 6, rounds)
+    all_agree = all_agree and agree
+    print(f"  {label:32}{each * 1e9:6.0f} ns     {ratio:8.2f}" + ("" if agree else "!"), flush=True)
 print("checksums:", "all agree" if all_agree else "DIFFER where marked !")
 sys.exit(0 if all_agree else 1)

@@ -1,5 +1,6 @@
 // The benchmark (tests/bench.sh): sessions drawn by a small generator. A line of standard input is nine bytes: a digit for the
-// planner, one for the workload, six for the number of rounds, and the end of the line. Each is answered by a checksum.
+// planner (for workloads 3, 5 and 6 the board), one for the workload, six for the number of rounds, and the end of the line.
+// Each is answered by a checksum.
 ghost use Prim.Native.Nat.{_≤_};
 use board::Answer;
 use board::Board;
@@ -199,6 +200,183 @@ fn stuck(planner: u8, rounds: u32) -> u64 {
     sum
 }
 
+// A board of 256 columns and 64 tasks of drawn sizes, placed by Full: 34 of them wait, the last ends at tick 2072.
+fn scattered() -> Board {
+    let created = Board::new(256, 64);
+    let mut board = created.board;
+    let mut seed: u64 = 1;
+    let mut i: u32 = 0;
+    while i < 64 {
+        let s = draws(seed);
+        seed = s[4];
+        i += 1;
+        let submitted = board.submit(
+            3,
+            Submission {
+                id: i,
+                e: pick(s[1], 200, 800),
+                d: 2_000_000_000,
+                w: (pick(s[3], 1, 15) % 65536) as u16,
+                h: 1,
+            },
+        );
+        board = submitted.board;
+    }
+    board
+}
+
+// A board of 256 columns, all of them held by 64 tasks one after the other.
+fn walled() -> Board {
+    let created = Board::new(256, 64);
+    let mut board = created.board;
+    let mut i: u32 = 0;
+    while i < 64 {
+        i += 1;
+        let submitted = board.submit(
+            3,
+            Submission {
+                id: i,
+                e: 1_000_000,
+                d: 2_000_000_000,
+                w: 256,
+                h: 1,
+            },
+        );
+        board = submitted.board;
+    }
+    board
+}
+
+fn wanted(w: u16, e: u32, d: u32) -> Submission {
+    Submission {
+        id: 1000,
+        e: e,
+        d: d,
+        w: w,
+        h: 1,
+    }
+}
+
+// A word of a lent buffer, 0 past its end.
+fn word(buffer: &[u32], i: usize) -> u32 {
+    if i < buffer.len() {
+        return buffer[i];
+    }
+    0
+}
+
+// All words of a lent buffer.
+fn total(buffer: &[u32]) -> u64 {
+    let mut sum: u64 = 0;
+    let mut i: usize = 0;
+    while i < buffer.len() {
+        sum = sum % 1_000_000_007 * 31 + word(buffer, i) as u64;
+        i += 1;
+    }
+    sum
+}
+
+// A start and a column.
+struct Pair {
+    start: u32,
+    column: u32,
+}
+
+// The last pair that was written.
+fn last_pair(buffer: &[u32], count: usize) -> Pair {
+    if count == 0 || 8192 < count {
+        return Pair {
+            start: 0,
+            column: 0,
+        };
+    }
+    Pair {
+        start: word(buffer, count * 2 - 2),
+        column: word(buffer, count * 2 - 1),
+    }
+}
+
+// An answer to a request for openings mixed into the checksum, with the last pair that was written.
+fn counted(sum: u64, count: usize, more: bool, last: Pair) -> u64 {
+    let base = sum % 1_000_000_007 * 31 + count as u64 % 65536 * 5 + one_if(more) * 3;
+    base + last.start as u64 + last.column as u64 * 7
+}
+
+// Openings asked for again and again. `on`: those after the last pair given while a further one remains; else always the same
+// ones. The words that stand in the buffer in the end are in the sum.
+fn asking(
+    standing: Board,
+    a: Submission,
+    from: Pair,
+    on: bool,
+    buffer: &mut [u32],
+    rounds: u32,
+) -> u64 {
+    let mut board = standing;
+    let mut pair = from;
+    let mut sum: u64 = 0;
+    let mut round: u32 = 0;
+    while round < rounds {
+        board.now = round % 8;
+        let opened = board.openings(a, pair.start, pair.column, buffer);
+        let last = last_pair(buffer, opened.count);
+        sum = counted(sum, opened.count, opened.more, last);
+        pair = if on && opened.more { last } else { from };
+        board = opened.board;
+        round += 1;
+    }
+    sum % 1_000_000_007 + total(buffer) % 1_000_000_007
+}
+
+fn paged(standing: Board, a: Submission, rounds: u32) -> u64 {
+    let mut buffer = [0u32; 16384];
+    let from = Pair {
+        start: 0,
+        column: 0,
+    };
+    asking(standing, a, from, true, &mut buffer, rounds)
+}
+
+fn first(standing: Board, a: Submission, start: u32, column: u32, rounds: u32) -> u64 {
+    let mut buffer = [0u32; 2];
+    let from = Pair {
+        start: start,
+        column: column,
+    };
+    asking(standing, a, from, false, &mut buffer, rounds)
+}
+
+fn empty() -> Board {
+    let created = Board::new(256, 64);
+    created.board
+}
+
+// 5: openings into a large buffer. Empty; 64 live tasks, until the last has ended; empty and a wide task.
+fn pages(board: u8, rounds: u32) -> u64 {
+    if board == 0 {
+        return paged(empty(), wanted(1, 1, 2_000_000_000), rounds);
+    }
+    if board == 1 {
+        return paged(scattered(), wanted(4, 20, 2092), rounds);
+    }
+    paged(empty(), wanted(33, 1, 2_000_000_000), rounds)
+}
+
+// 6: the first opening. Empty; 64 live tasks; all columns held up to tick 64,000,000; only the one at 1,999,999,999 left.
+fn firsts(board: u8, rounds: u32) -> u64 {
+    if board == 0 {
+        return first(empty(), wanted(1, 1, 2_000_000_000), 0, 0, rounds);
+    }
+    if board == 1 {
+        return first(scattered(), wanted(8, 20, 2_000_000_000), 0, 0, rounds);
+    }
+    let far = walled();
+    if board == 2 {
+        return first(far, wanted(1, 1, 2_000_000_000), 0, 0, rounds);
+    }
+    first(far, wanted(256, 1, 2_000_000_000), 1_999_999_998, 1, rounds)
+}
+
 fn live(planner: u8) -> u32 {
     if planner == 0 {
         return 0;
@@ -218,6 +396,12 @@ fn run(planner: u8, workload: u8, rounds: u32) -> u64 {
     }
     if workload == 3 {
         return tested(live(planner), rounds);
+    }
+    if workload == 5 {
+        return pages(planner, rounds);
+    }
+    if workload == 6 {
+        return firsts(planner, rounds);
     }
     stuck(planner, rounds)
 }
