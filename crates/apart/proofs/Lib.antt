@@ -2,3 +2,4 @@ pub mod Taking
 pub mod Finding
 pub mod Ending
 pub mod Gathering
+pub mod Changing
