@@ -74,7 +74,9 @@ full-rejected b a e q o =
 
 -- WHAT A PLACE BOOKS: the lowest free slot, the record with the column and start answered; nothing else changes
 pub record BooksAt (b : Board) (n : ℕ) (a : Submission) (free c s f : ℕ) : Type 0 where
+  pub accepted : Accepted b n a
   pub inside : free < 64
+  pub from-now : b .now ≤ s
   pub fits : s + a .e ≤ 2000000000
   pub finish : f ≡ s + a .e
   pub same : submitted b n a ≡ submittedBooked b a free c s
@@ -86,7 +88,9 @@ placed-books b n a {free} {c} {s} {f} z e =
     let t = taken-place b n a (found b n a) (sym (ap (λ y. y .answer) (accepted-answered b n a r)) ∙ e) in
     let o = planned-opens (b .columns) (b .now) (liveOf b) a (k .reachable) n (t .0) in
     record {
+      accepted = k;
       inside = omega (arith, z, free-inside b n a k);
+      from-now = o .from-now;
       fits = omega (arith, o .in-time, k .d);
       finish = t .1;
       same = accepted-answered b n a r ∙ ap (taken b a) (t .0) ∙ booked-there b a c s free z;

@@ -1,5 +1,5 @@
 -- The board inside a run: its device and clock, its slots taken apart, and the records that are brought up to date at the end: code-level definitions; no promise of a public call cites them. Assumes nothing.
-use Prim.Native.Nat.{ℕ}
+use Prim.Native.Nat.{ℕ, _<_}
 use mathlib.Core.Path.{_≡_}
 use mathlib.Core.Bool.{Bool, true, cond}
 use mathlib.Core.List.{List}
@@ -10,7 +10,11 @@ use Rattle.tasks.specs.Tasks.{freeSlot}
 use Rattle.slots.specs.Slots.{sound, allAgedTo}
 use Rattle.apart.specs.Mirrors.{Mirrors, Above}
 use Rattle.session.specs.declared.Device.{Device}
+use Rattle.events.specs.declared.Event.{Event}
+use Rattle.events.specs.declared.Reading.the-variants.{Got}
+use Rattle.events.specs.Records.{readFrom}
 use Rattle.session.specs.declared.Done.{Done}
+use Rattle.session.specs.declared.Whole.{Whole}
 use Rattle.session.specs.Recording.{Outcome}
 
 -- the slots ks of the board, taken apart where it is sound
@@ -49,3 +53,8 @@ pub record Follows (d : Device) (ks : List Task) (o : Outcome) (r : Done) (id s 
 pub record Has (d : Device) (id s f l r : List ℕ) : Type 0 where
   pub tasks : List Task
   pub kept : Kept d tasks id s f l r
+
+-- the next whole record, if there is one
+pub record Took (bytes : List ℕ) (r : Whole) : Type 0 where
+  pub got : 0 < r .size → readFrom bytes ≡ Got (r .event) (r .size)
+  pub none : r .size ≡ 0 → (v : Event) (n : ℕ) → readFrom bytes ≡ Got v n → ⊥

@@ -4,7 +4,7 @@ ghost use mathlib.Core.Path.{_≡_};
 ghost use mathlib.Core.Bool.{true};
 ghost use mathlib.Core.List.{List, [], _∷_};
 ghost use Prim.Native.Nat.{ℕ, _+_, _-_, _*_, _≤_, _<_, max, min};
-ghost use lib.ListN.{length};
+ghost use lib.ListN.{length, drop};
 ghost use lib.Seq.{sets};
 ghost use Rattle.tasks.specs.declared.Task.{Task};
 ghost use Rattle.tasks.specs.Tasks.{freeSlot};
@@ -13,7 +13,7 @@ ghost use Rattle.board.specs.Untested.{boardOf};
 ghost use Rattle.events.specs.declared.Event.the-variants.{NewBoard, Submit, Clock, Withdraw};
 ghost use Rattle.events.specs.Records.{kindOf};
 ghost use Rattle.session.specs.Recording.{outcome, roomFor, ran, ranBuffer};
-ghost use Rattle.session.specs.Standing.{Kept, Has, Follows};
+ghost use Rattle.session.specs.Standing.{Kept, Has, Follows, asBooked, Took};
 use board::Answer;
 use board::Board;
 use events::Event;
@@ -317,4 +317,126 @@ fn put_line(
     answers[at + 3] = column as u32;
     answers[at + 4] = start;
     answers[at + 5] = finish;
+}
+
+// How many events more: six words a line, and 1,000,000,000 events in all.
+fn room(words: usize, number: u32) -> usize
+    ensures { λ r. ⌜ r ≡ roomFor words number ⌝ }
+{
+    if 1_000_000_000 < number {
+        return 0;
+    }
+    let left = (1_000_000_000 - number) as usize;
+    let fit = words / 6;
+    if fit < left { fit } else { left }
+}
+
+// The next whole record: its event and the bytes it takes, 0 where there is none.
+struct Whole {
+    size: usize,
+    event: Event,
+}
+
+fn next(bytes: &[u8], at: usize) -> Whole
+    ensures { λ r. ⌜ Took (drop at (now (bytes .entry))) r ⌝ }
+{
+    let none = Event::Clock { instant: 0 };
+    let reading = events::read_at(bytes, at);
+    match reading {
+        Reading::End => Whole {
+            size: 0,
+            event: none,
+        },
+        Reading::Got(event, size) => Whole {
+            size: size,
+            event: event,
+        },
+        Reading::CutShort(_) => Whole {
+            size: 0,
+            event: none,
+        },
+        Reading::Unknown(_) => Whole {
+            size: 0,
+            event: none,
+        },
+    }
+}
+
+// The records brought up to the clock.
+fn brought(tasks: [Task; 64], d: Device) -> [Task; 64]
+    ensures { λ r. ⌜ r ≡ asBooked d tasks ⌝ }
+{
+    if d.sound {
+        return slots::all_aged(tasks, d.clock);
+    }
+    tasks
+}
+
+// A recording's whole records from a board on, of which `number` events are done: six words a line into the lent buffer. It stops
+// before a record that is cut short or of no known kind; `events::read_at` tells its caller which.
+pub fn run(board: Board, number: u32, bytes: &[u8], answers: &mut [u32]) -> Ran
+    ensures { λ r. ⌜ r ≡ ran board number (now (bytes .entry)) (length (now (answers .entry))) ⌝ }
+    ensures { λ r. ⌜ now (answers .exit) ≡ ranBuffer board number (now (bytes .entry)) (now (answers .entry)) ⌝ }
+    ensures { λ r. ⌜ (r .count * 6 ≤ length (now (answers .entry))) × (r .taken ≤ length (now (bytes .entry))) × (number ≤ 1000000000 → number + r .count ≤ 1000000000) ⌝ }
+{
+    let mut tasks = board.tasks;
+    let p = apart::apart(tasks);
+    let mut id = p.id;
+    let mut start = p.start;
+    let mut finish = p.finish;
+    let mut left = p.left;
+    let mut past = p.past;
+    let mut d = Device {
+        clock: board.now,
+        columns: board.columns,
+        rows: board.rows,
+        used: 64,
+        sound: board.is_sound(),
+    };
+    let most = room(answers.len(), number);
+    let mut turns = most;
+    let mut at: usize = 0;
+    let mut n: usize = 0;
+    while n < turns {
+        let e = next(bytes, at);
+        let size = e.size;
+        if size == 0 {
+            turns = n;
+        } else {
+            let event = e.event;
+            let r = answered(&mut id, &mut start, &mut finish, &mut left, &mut past, d, event);
+            put_line(
+                answers,
+                n * 6,
+                number + n as u32 + 1,
+                kind(event),
+                r.number,
+                r.column,
+                r.start,
+                r.finish,
+            );
+            d = r.device;
+            at += size;
+            n += 1;
+            let slot = r.slot;
+            if slot < 64 {
+                let task = r.task;
+                tasks[slot] = task;
+            } else if slot == 65 {
+                let free = tasks::free_slot();
+                tasks = [free; 64];
+            }
+        }
+    }
+    let after = brought(tasks, d);
+    Ran {
+        count: n,
+        taken: at,
+        board: Board {
+            tasks: after,
+            now: d.clock,
+            columns: d.columns,
+            rows: d.rows,
+        },
+    }
 }
