@@ -25,6 +25,7 @@ pub struct Parts {
 
 pub fn apart(tasks: [Task; 64]) -> Parts
     ensures { λ r. ⌜ ((W H clock : ℕ) → T (all? (slotSound W H clock) tasks) → Mirrors 64 tasks (r .id) (r .start) (r .finish) (r .left) (r .past)) ⌝ }
+    ensures { λ r. ⌜ (length (r .id) ≡ 64) × (length (r .start) ≡ 64) × (length (r .finish) ≡ 64) × (length (r .left) ≡ 64) × (length (r .past) ≡ 64) × (length tasks ≡ 64) ⌝ }
 {
     let mut id = [0u32; 64];
     let mut start = [0u32; 64];

@@ -404,7 +404,15 @@ pub fn run(board: Board, number: u32, bytes: &[u8], answers: &mut [u32]) -> Ran
             turns = n;
         } else {
             let event = e.event;
-            let r = answered(&mut id, &mut start, &mut finish, &mut left, &mut past, d, event);
+            let r = answered(
+                &mut id,
+                &mut start,
+                &mut finish,
+                &mut left,
+                &mut past,
+                d,
+                event,
+            );
             put_line(
                 answers,
                 n * 6,

@@ -107,7 +107,7 @@ returns : tie.Need-returns Inv-loop μ-loop
 returns c =
     let l = c .before .loop in
     let e : l .i ≡ 64 = omega (arith, l .inv .0) in
-    λ W H clock t. rw (← e) (l .inv .7 W H clock t)
+    (λ W H clock t. rw (← e) (l .inv .7 W H clock t), (l .inv .2, l .inv .3, l .inv .4, l .inv .5, l .inv .6, l .inv .1))
 
 pub apart-spec : {M : Type 1} → statement M
 apart-spec =

@@ -39,9 +39,12 @@ loop-less c = search needs
 
 loop-again : tie.Need-loop-again Inv-loop μ-loop
 loop-again c =
-    let l = c .before .loop in
-    (omega arith, simp length-set (l .inv .1), λ j h. stored (λ x. x ≡ 0) (l .id) (l .i) 0 j 0 (omega (arith, l .inv .1, c .before .before .pre .1 .upto)) (λ e. refl) (λ e. l .inv .2 j (omega arith)),
-    λ j h p. stored (λ x. x ≡ 0) (l .id) (l .i) 0 j 0 (omega (arith, l .inv .1, c .before .before .pre .1 .upto)) (λ e. refl) (λ e. l .inv .3 j h p))
+    let l = c .before .loop in (
+      omega arith,
+      simp length-set (l .inv .1),
+      λ j h. stored (λ x. x ≡ 0) (l .id) (l .i) 0 j 0 (omega (arith, l .inv .1, c .before .before .pre .1 .upto)) (λ e. refl) (λ e. l .inv .2 j (omega arith)),
+      λ j h p. stored (λ x. x ≡ 0) (l .id) (l .i) 0 j 0 (omega (arith, l .inv .1, c .before .before .pre .1 .upto)) (λ e. refl) (λ e. l .inv .3 j h p),
+    )
 
 returns : tie.Need-returns Inv-loop μ-loop
 returns c =

@@ -1,0 +1,264 @@
+-- The loop of a run: what is left of the recording gives what is left of the lines, the board and the bytes. Assumes nothing.
+use Prim.Native.Nat.{ℕ, zero, suc, _+_, _-_, _*_, _/_, _≤_, _<_, min}
+use mathlib.Core.Path.{_≡_, refl, sym, ap, ap₂, _∙_, subst}
+use mathlib.Core.Logic.{_⊎_, inl, inr}
+use mathlib.Core.Bool.{Bool, true, false, cond}
+use mathlib.Core.List.{List, [], _∷_, _++_, append-nil, append-assoc}
+use native.Mathlib.Nat.{zero-add}
+use native.Mathlib.Omega.{arith}
+use lib.Dec.{T}
+use borrow.Author.Tests.{lt-ltb, le-ltb, ne-eqb}
+use lib.ListN.{length, drop, set, replicate, length-append, length-drop}
+use Rattle.tasks.specs.Tasks.{freeSlot}
+use lib.Seq.{sets, sets-eq, length-sets, drop-drop}
+use Rattle.lists.specs.Lists.{all?, overFront}
+use Rattle.tasks.specs.declared.Task.{Task}
+use Rattle.slots.specs.Slots.{slotSound, sound, allAgedTo}
+use Rattle.slots.proofs.Soundness.{each-sound, sound-out}
+use Rattle.slots.proofs.Ageing.{aged-now}
+use Rattle.apart.specs.Mirrors.{Mirrors}
+use Rattle.board.specs.declared.Board.{Board}
+use Rattle.board.specs.Untested.{boardOf}
+use Rattle.events.specs.declared.Event.{Event}
+use Rattle.events.specs.declared.Reading.{Reading}
+use Rattle.events.specs.declared.Reading.the-variants.{End, Got, CutShort, Unknown}
+use Rattle.events.specs.Records.{kindOf, readFrom}
+use Rattle.events.proofs.Calls.{taken-there}
+use Rattle.session.specs.declared.Device.{Device}
+use Rattle.session.specs.declared.Done.{Done}
+use Rattle.session.specs.declared.Whole.{Whole}
+use Rattle.session.specs.declared.Ran.{Ran}
+use Rattle.session.specs.Recording.{Line, lineOf, Outcome, outcome, mostEvents, Run, still, ranFrom, lineWords, roomFor, ran, ranBuffer}
+use Rattle.session.specs.Standing.{Kept, Follows, asBooked, changed, Took}
+
+-- a whole record, and none
+ran-got : (m : ℕ) (b : Board) (n : ℕ) (bytes : List ℕ) (v : Event) (size : ℕ) → readFrom bytes ≡ Got v size
+    → ranFrom (suc m) b n bytes ≡ record { lines = lineOf (suc n) (kindOf v) (outcome b v .answer) ∷ ranFrom m (outcome b v .board) (suc n) (drop size bytes) .lines; board = ranFrom m (outcome b v .board) (suc n) (drop size bytes) .board; taken = size + ranFrom m (outcome b v .board) (suc n) (drop size bytes) .taken }
+unfolding ranFrom
+ran-got m b n bytes v size e = rw (e, ranFrom)
+
+ran-zero : (b : Board) (n : ℕ) (bytes : List ℕ) → ranFrom zero b n bytes ≡ still b
+unfolding ranFrom
+ran-zero b n bytes = refl
+
+ran-none : (m : ℕ) (b : Board) (n : ℕ) (bytes : List ℕ) → ((v : Event) (size : ℕ) → readFrom bytes ≡ Got v size → ⊥) → ranFrom m b n bytes ≡ still b
+unfolding ranFrom
+ran-none zero b n bytes f = refl
+ran-none (suc m) b n bytes f = go (readFrom bytes) refl
+  where
+    go : (r : Reading) → readFrom bytes ≡ r → ranFrom (suc m) b n bytes ≡ still b
+    go End e = rw (e, ranFrom)
+    go (Got v size) e = absurd (f v size e)
+    go (CutShort k) e = rw (e, ranFrom)
+    go (Unknown k) e = rw (e, ranFrom)
+
+words-append : (xs ys : List Line) → lineWords (xs ++ ys) ≡ lineWords xs ++ lineWords ys
+unfolding lineWords
+words-append [] ys = refl
+words-append (x ∷ xs) ys = ap (λ l. x .event ∷ x .kind ∷ x .answer ∷ x .column ∷ x .start ∷ x .finish ∷ l) (words-append xs ys)
+
+words-length : (xs : List Line) → length (lineWords xs) ≡ length xs * 6
+unfolding lineWords
+words-length [] = refl
+words-length (x ∷ xs) = let h = words-length xs in omega arith
+
+sets-append : (l : List ℕ) (i : ℕ) (xs ys : List ℕ) → sets (sets l i xs) (i + length xs) ys ≡ sets l i (xs ++ ys)
+sets-append l i [] ys = ap (λ k. sets l k ys) (let z : i + 0 ≡ i = omega arith in z)
+sets-append l i (x ∷ xs) ys = ap (λ k. sets (sets (set l i x) (suc i) xs) k ys) (let z : i + suc (length xs) ≡ suc i + length xs = omega arith in z) ∙ sets-append (set l i x) (suc i) xs ys
+
+-- an event's change to the records, as the code makes it
+pub changed-put : (e : Done) (tasks : List Task) → e .slot < 64 → set tasks (e .slot) (e .task) ≡ changed e tasks
+changed-put e tasks h = rw (lt-ltb (e .slot) 64 h)
+
+pub changed-all : (e : Done) (tasks : List Task) → e .slot ≡ 65 → (x : Task) → x ≡ freeSlot → replicate 64 x ≡ changed e tasks
+changed-all e tasks h x q = rw (h) (ap (replicate 64) q)
+
+pub changed-none : (e : Done) (tasks : List Task) → 64 ≤ e .slot → (e .slot ≡ 65 → ⊥) → tasks ≡ changed e tasks
+changed-none e tasks h q = rw (le-ltb (e .slot) 64 h, ne-eqb (e .slot) 65 q)
+
+-- after n events
+pub record Running (b : Board) (number most : ℕ) (bytes lent answers : List ℕ) (tasks : List Task) (id s f l r : List ℕ) (d : Device) (turns at n : ℕ) : Type 0 where
+  pub slots : List Task
+  pub kept : Kept d slots id s f l r
+  pub size : length tasks ≡ 64
+  pub records : slots ≡ asBooked d tasks
+  pub done : List Line
+  pub lines : ranFrom most b number bytes .lines ≡ done ++ ranFrom (most - n) (boardOf slots (d .clock) (d .columns) (d .rows)) (number + n) (drop at bytes) .lines
+  pub board : ranFrom most b number bytes .board ≡ ranFrom (most - n) (boardOf slots (d .clock) (d .columns) (d .rows)) (number + n) (drop at bytes) .board
+  pub taken : ranFrom most b number bytes .taken ≡ at + ranFrom (most - n) (boardOf slots (d .clock) (d .columns) (d .rows)) (number + n) (drop at bytes) .taken
+  pub words : answers ≡ sets lent 0 (lineWords done)
+  pub count : n ≡ length done
+  pub upto : n ≤ turns
+  pub bound : turns ≤ most
+  pub inside : at ≤ length bytes
+  pub goes-on : (turns ≡ most) ⊎ ((turns ≡ n) × (ranFrom (most - n) (boardOf slots (d .clock) (d .columns) (d .rows)) (number + n) (drop at bytes) ≡ still (boardOf slots (d .clock) (d .columns) (d .rows))))
+
+-- AT THE BEGIN: the board that was handed over, tested once
+pub run-begin : (tasks : List Task) (clock columns rows number most : ℕ) (bytes lent : List ℕ) (good : Bool) (id s f l r : List ℕ) → good ≡ sound columns rows clock tasks
+    → (length id ≡ 64) × (length s ≡ 64) × (length f ≡ 64) × (length l ≡ 64) × (length r ≡ 64) × (length tasks ≡ 64)
+    → ((W H now : ℕ) → T (all? (slotSound W H now) tasks) → Mirrors 64 tasks id s f l r)
+    → Running (boardOf tasks clock columns rows) number most bytes lent lent tasks id s f l r (record { clock = clock; columns = columns; rows = rows; used = 64; sound = good }) most 0 0
+unfolding lineWords
+run-begin tasks clock columns rows number most bytes lent good id s f l r g sizes m = record {
+  slots = tasks;
+  kept = record {
+    slots = sizes .5;
+    ids = sizes .0;
+    starts = sizes .1;
+    finishes = sizes .2;
+    lefts = sizes .3;
+    pasts = sizes .4;
+    good = sym g;
+    above = record { upto = omega arith; none = λ i h p. absurd (omega arith) };
+    mirrors = λ u. m columns rows clock (each-sound columns rows clock tasks (subst T (sym u ∙ g) tt));
+  };
+  size = sizes .5;
+  records = as-booked good g;
+  done = [];
+  lines = ap (λ x. ranFrom x (boardOf tasks clock columns rows) number bytes .lines) first ∙ ap (λ x. ranFrom (most - 0) (boardOf tasks clock columns rows) x bytes .lines) start;
+  board = ap (λ x. ranFrom x (boardOf tasks clock columns rows) number bytes .board) first ∙ ap (λ x. ranFrom (most - 0) (boardOf tasks clock columns rows) x bytes .board) start;
+  taken = ap (λ x. ranFrom x (boardOf tasks clock columns rows) number bytes .taken) first ∙ ap (λ x. ranFrom (most - 0) (boardOf tasks clock columns rows) x bytes .taken) start ∙ sym (zero-add _);
+  words = refl;
+  count = refl;
+  upto = omega arith;
+  bound = omega arith;
+  inside = omega arith;
+  goes-on = inl refl;
+}
+  where
+    first : most ≡ most - 0
+    first = omega arith
+
+    start : number ≡ number + 0
+    start = omega arith
+
+    as-booked : (x : Bool) → x ≡ sound columns rows clock tasks → tasks ≡ cond x (allAgedTo clock tasks) tasks
+    as-booked true e = sym (aged-now columns rows clock tasks (sound-out columns rows clock tasks (subst T e tt)))
+    as-booked false e = refl
+
+module _ {b : Board} {number most : ℕ} {bytes lent answers : List ℕ} {tasks : List Task} {id s f l r : List ℕ} {d : Device} {turns at n : ℕ} (o : Running b number most bytes lent answers tasks id s f l r d turns at n) where
+  pub same-room : length answers ≡ length lent
+  same-room = ap length (o .words) ∙ length-sets lent 0 (lineWords (o .done))
+
+  -- NO WHOLE RECORD IS LEFT
+  pub run-stop : {w : Whole} → Took (drop at bytes) w → w .size ≡ 0 → Running b number most bytes lent answers tasks id s f l r d n at n
+  run-stop {w} t e = record {
+    slots = o .slots;
+    kept = o .kept;
+    size = o .size;
+    records = o .records;
+    done = o .done;
+    lines = o .lines;
+    board = o .board;
+    taken = o .taken;
+    words = o .words;
+    count = o .count;
+    upto = omega arith;
+    bound = omega (arith, o .upto, o .bound);
+    inside = o .inside;
+    goes-on = inr (refl, ran-none (most - n) (boardOf (o .slots) (d .clock) (d .columns) (d .rows)) (number + n) (drop at bytes) (t .none e));
+  }
+
+  -- AN EVENT MORE
+  module _ (h : n < turns) {w : Whole} (t : Took (drop at bytes) w) (p : 0 < w .size) {e : Done} {id′ s′ f′ l′ r′ : List ℕ}
+      (q : (ks : List Task) → Kept d ks id s f l r → Follows d ks (outcome (boardOf ks (d .clock) (d .columns) (d .rows)) (w .event)) e id′ s′ f′ l′ r′)
+      {after : List ℕ} {kind : ℕ} (k : kind ≡ kindOf (w .event))
+      (a : after ≡ sets answers (n * 6) ((number + n + 1) ∷ kind ∷ e .number ∷ e .column ∷ e .start ∷ e .finish ∷ []))
+      {next : List Task} (c : next ≡ changed e tasks) (z : length next ≡ 64) where
+    abbrev now : Board
+    now = boardOf (o .slots) (d .clock) (d .columns) (d .rows)
+
+    abbrev out : Outcome
+    out = outcome now (w .event)
+
+    abbrev line : Line
+    line = lineOf (suc (number + n)) (kindOf (w .event)) (out .answer)
+
+    abbrev later : Run
+    later = ranFrom (most - (n + 1)) (boardOf (out .board .tasks) (e .device .clock) (e .device .columns) (e .device .rows)) (number + (n + 1)) (drop (at + w .size) bytes)
+
+    g : Follows d (o .slots) out e id′ s′ f′ l′ r′
+    g = q (o .slots) (o .kept)
+
+    full : turns ≡ most
+    full = pick (o .goes-on)
+      where
+        pick : (turns ≡ most) ⊎ ((turns ≡ n) × (ranFrom (most - n) now (number + n) (drop at bytes) ≡ still now)) → turns ≡ most
+        pick (inl x) = x
+        pick (inr x) = absurd (omega (arith, x .0))
+
+    -- one record off what is left
+    one : ranFrom (most - n) now (number + n) (drop at bytes) ≡ record { lines = line ∷ later .lines; board = later .board; taken = w .size + later .taken }
+    one =
+        let m : most - n ≡ suc (most - (n + 1)) = omega (arith, full) in
+        let c1 : suc (number + n) ≡ number + (n + 1) = omega arith in
+        ap (λ x. ranFrom x now (number + n) (drop at bytes)) m ∙ ran-got (most - (n + 1)) now (number + n) (drop at bytes) (w .event) (w .size) (t .got p)
+        ∙ ap (λ (x : Run). record { lines = line ∷ x .lines; board = x .board; taken = w .size + x .taken })
+        (ap (λ x. ranFrom (most - (n + 1)) (out .board) x (drop (w .size) (drop at bytes))) c1
+        ∙ ap (λ x. ranFrom (most - (n + 1)) (out .board) (number + (n + 1)) x) (drop-drop (w .size) at bytes)
+        ∙ ap (λ x. ranFrom (most - (n + 1)) x (number + (n + 1)) (drop (at + w .size) bytes)) there)
+      where
+        there : out .board ≡ boardOf (out .board .tasks) (e .device .clock) (e .device .columns) (e .device .rows)
+        there = λ i. record { tasks = out .board .tasks; now = sym (g .clock) i; columns = sym (g .columns) i; rows = sym (g .rows) i }
+
+    pub run-more : Running b number most bytes lent after next id′ s′ f′ l′ r′ (e .device) turns (at + w .size) (n + 1)
+    unfolding lineWords lineOf
+    run-more = record {
+      slots = out .board .tasks;
+      kept = g .kept;
+      size = z;
+      records = g .records tasks (o .size) (o .records) ∙ ap (asBooked (e .device)) (sym c);
+      done = o .done ++ (line ∷ []);
+      lines = o .lines ∙ ap (λ (x : Run). o .done ++ x .lines) one ∙ sym (append-assoc (o .done) (line ∷ []) (later .lines));
+      board = o .board ∙ ap (λ (x : Run). x .board) one;
+      taken = o .taken ∙ ap (λ (x : Run). at + x .taken) one ∙ (let y : at + (w .size + later .taken) ≡ at + w .size + later .taken = omega arith in y);
+      words =
+          let behind : n * 6 ≡ 0 + length (lineWords (o .done)) = omega (arith, words-length (o .done), o .count) in
+          let event : number + n + 1 ≡ suc (number + n) = omega arith in
+          let six : (number + n + 1) ∷ kind ∷ e .number ∷ e .column ∷ e .start ∷ e .finish ∷ [] ≡ lineWords (line ∷ []) = (λ i. event i ∷ k i ∷ g .number i ∷ g .column i ∷ g .start i ∷ g .finish i ∷ []) in
+          a ∙ ap (λ x. sets x (n * 6) ((number + n + 1) ∷ kind ∷ e .number ∷ e .column ∷ e .start ∷ e .finish ∷ [])) (o .words)
+          ∙ ap₂ (λ x y. sets (sets lent 0 (lineWords (o .done))) x y) behind six
+          ∙ sets-append lent 0 (lineWords (o .done)) (lineWords (line ∷ [])) ∙ ap (sets lent 0) (sym (words-append (o .done) (line ∷ [])));
+      count = omega (arith, length-append (o .done) (line ∷ []), o .count);
+      upto = omega arith;
+      bound = o .bound;
+      inside = let y = taken-there (drop at bytes) (w .event) (w .size) (t .got p) in omega (arith, length-drop at bytes, o .inside);
+      goes-on = inl full;
+    }
+
+  -- AFTER THE LAST
+  module _ (h : turns ≤ n) (m : most ≡ roomFor (length lent) number) {after : List Task} (c : after ≡ asBooked d tasks) where
+    ended : ranFrom (most - n) (boardOf (o .slots) (d .clock) (d .columns) (d .rows)) (number + n) (drop at bytes) ≡ still (boardOf (o .slots) (d .clock) (d .columns) (d .rows))
+    ended = pick (o .goes-on)
+      where
+        stopped : (x : ℕ) → x ≡ 0 → ranFrom x (boardOf (o .slots) (d .clock) (d .columns) (d .rows)) (number + n) (drop at bytes) ≡ still (boardOf (o .slots) (d .clock) (d .columns) (d .rows))
+        stopped zero y = ran-zero _ _ _
+        stopped (suc x) y = absurd (omega arith)
+
+        pick : (turns ≡ most) ⊎ ((turns ≡ n) × (ranFrom (most - n) (boardOf (o .slots) (d .clock) (d .columns) (d .rows)) (number + n) (drop at bytes) ≡ still (boardOf (o .slots) (d .clock) (d .columns) (d .rows))))
+            → ranFrom (most - n) (boardOf (o .slots) (d .clock) (d .columns) (d .rows)) (number + n) (drop at bytes) ≡ still (boardOf (o .slots) (d .clock) (d .columns) (d .rows))
+        pick (inl x) = stopped (most - n) (omega arith)
+        pick (inr x) = x .1
+
+    every : ranFrom most b number bytes .lines ≡ o .done
+    every = o .lines ∙ ap (λ (x : Run). o .done ++ x .lines) ended ∙ append-nil (o .done)
+
+    pub run-end : (record { count = n; taken = at; board = boardOf after (d .clock) (d .columns) (d .rows) } ≡ ran b number bytes (length lent))
+        × ((answers ≡ ranBuffer b number bytes lent) × ((n * 6 ≤ length lent) × (at ≤ length bytes) × (number ≤ 1000000000 → number + n ≤ 1000000000)))
+    unfolding ran ranBuffer
+    run-end = (
+      rw (← m) (λ i. record { count = counted i; taken = bytes-taken i; board = follows i }),
+      (
+        rw (← m) (o .words ∙ sets-eq (lineWords (o .done)) lent 0 (omega (arith, words-length (o .done), o .count, o .upto, o .bound)) ∙ rw zero-add (ap (λ x. overFront (lineWords x) lent) (sym every))),
+        (omega (arith, o .upto, o .bound), o .inside, λ x. omega (arith, o .upto, o .bound)),
+      ),
+    )
+      where
+        counted : n ≡ length (ranFrom most b number bytes .lines)
+        counted = o .count ∙ sym (ap length every)
+
+        bytes-taken : at ≡ ranFrom most b number bytes .taken
+        bytes-taken = (let y : at ≡ at + 0 = omega arith in y) ∙ sym (o .taken ∙ ap (λ (x : Run). at + x .taken) ended)
+
+        follows : boardOf after (d .clock) (d .columns) (d .rows) ≡ ranFrom most b number bytes .board
+        follows = ap (λ x. boardOf x (d .clock) (d .columns) (d .rows)) (c ∙ sym (o .records)) ∙ sym (o .board ∙ ap (λ (x : Run). x .board) ended)
