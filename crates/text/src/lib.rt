@@ -6,7 +6,7 @@ ghost use lib.ListN.{length, take, drop};
 ghost use lib.Seq.{sets};
 ghost use Rattle.lists.specs.Lists.{overFront};
 ghost use Rattle.text.specs.Text.{decimal, rowText, rowsText, rowsOf};
-ghost use Rattle.text.specs.Digits.{lastDigits};
+ghost use Rattle.text.specs.Digits.{lastDigits, Put};
 
 // How many digits a number has. By comparisons: a division for each would take longer than all of them.
 fn digits(x: u32) -> usize
@@ -71,8 +71,7 @@ pub fn put_decimal(out: &mut [u8], at: usize, x: u32) -> usize
 // A number and the byte that ends it; the place after both.
 fn put_ended(out: &mut [u8], at: usize, x: u32, end: u8) -> usize
     requires { ⌜ at + 11 ≤ length (now out) ⌝ }
-    ensures { λ r. ⌜ r ≡ at + length (decimal x ++ (end ∷ [])) ⌝ }
-    ensures { λ r. ⌜ now (out .exit) ≡ sets (now (out .entry)) at (decimal x ++ (end ∷ [])) ⌝ }
+    ensures { λ r. ⌜ Put (now (out .entry)) at (decimal x ++ (end ∷ [])) (now (out .exit)) r ⌝ }
     ensures { λ r. ⌜ r ≤ at + 11 ⌝ }
 {
     let after = put_decimal(out, at, x);
@@ -80,19 +79,34 @@ fn put_ended(out: &mut [u8], at: usize, x: u32, end: u8) -> usize
     after + 1
 }
 
-// "six numbers a line": those of the words from a place on; the place after the line.
+// "event number .., kind, answer, column, start, finish": six numbers of a line; the place after it.
+fn put_six(out: &mut [u8], at: usize, a: u32, b: u32, c: u32, d: u32, e: u32, f: u32) -> usize
+    requires { ⌜ at + 66 ≤ length (now out) ⌝ }
+    ensures { λ r. ⌜ Put (now (out .entry)) at (rowText (a ∷ b ∷ c ∷ d ∷ e ∷ f ∷ [])) (now (out .exit)) r ⌝ }
+    ensures { λ r. ⌜ r ≤ at + 66 ⌝ }
+{
+    let b_at = put_ended(out, at, a, b' ');
+    let c_at = put_ended(out, b_at, b, b' ');
+    let d_at = put_ended(out, c_at, c, b' ');
+    let e_at = put_ended(out, d_at, d, b' ');
+    let f_at = put_ended(out, e_at, e, b' ');
+    put_ended(out, f_at, f, b'\n')
+}
+
+// A row: the six words from a place on; the place after the line.
 pub fn put_row(out: &mut [u8], at: usize, words: &[u32], from: usize) -> usize
     requires { ⌜ (at + 66 ≤ length (now out)) × (from + 6 ≤ length (now words)) ⌝ }
     ensures { λ r. ⌜ r ≡ at + length (rowText (take 6 (drop from (now (words .entry))))) ⌝ }
     ensures { λ r. ⌜ now (out .exit) ≡ sets (now (out .entry)) at (rowText (take 6 (drop from (now (words .entry))))) ⌝ }
     ensures { λ r. ⌜ r ≤ at + 66 ⌝ }
 {
-    let a = put_ended(out, at, words[from], b' ');
-    let b = put_ended(out, a, words[from + 1], b' ');
-    let c = put_ended(out, b, words[from + 2], b' ');
-    let d = put_ended(out, c, words[from + 3], b' ');
-    let e = put_ended(out, d, words[from + 4], b' ');
-    put_ended(out, e, words[from + 5], b'\n')
+    let a = words[from];
+    let b = words[from + 1];
+    let c = words[from + 2];
+    let d = words[from + 3];
+    let e = words[from + 4];
+    let f = words[from + 5];
+    put_six(out, at, a, b, c, d, e, f)
 }
 
 // The first `count` rows of the words at the front of the buffer; how many bytes they take.
