@@ -33,7 +33,7 @@ moved-one l b from i h e =
     let rest : drop i b ≡ drop i l = rw zero-add at (ap (drop (0 + i)) e ∙ drop-paste l 0 (drop from l) i (omega arith) (omega arith)) in
     let turned : from + i ≡ i + from = omega arith in
     let same : getD b (from + i) 0 ≡ getD (drop from l) i 0 =
-      ap (λ k. getD b k 0) turned ∙ sym (getD-drop i b from 0) ∙ ap (λ t. getD t from 0) rest ∙ getD-drop i l from 0 ∙ ap (λ k. getD l k 0) (sym turned) ∙ sym (getD-drop from l i 0) in
+    ap (λ k. getD b k 0) turned ∙ sym (getD-drop i b from 0) ∙ ap (λ t. getD t from 0) rest ∙ getD-drop i l from 0 ∙ ap (λ k. getD l k 0) (sym turned) ∙ sym (getD-drop from l i 0) in
     ap (set b i) same ∙ ap (λ t. set t i (getD (drop from l) i 0)) e ∙ ap (λ k. set (paste l 0 (drop from l) i) k (getD (drop from l) i 0)) (sym (zero-add i))
     ∙ paste-suc l 0 (drop from l) i 0 (omega (arith, zero-add i)) size ∙ ap (paste l 0 (drop from l)) (sym (add-one i))
 
