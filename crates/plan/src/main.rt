@@ -176,10 +176,11 @@ fn stopped(text: &mut [u8], words: &mut [u32], s: State, last: Told) -> State
     ended(text, words, more)
 }
 
-// More of the input behind what is left of it. At its end a record that is cut short is 15; a read that fails is not the end.
+// More of the input behind what is left of it. There is room for it, so 0 bytes are the end of the input, and there a record
+// that is cut short is 15. A read that fails is not the end.
 fn read_on(bytes: &mut [u8], text: &mut [u8], words: &mut [u32], s: State, last: Told) -> State
     requires { ⌜ (65472 ≤ length (now text)) × (5952 ≤ length (now words)) × (s .lines < 992) × (s .number < 1000000000) ⌝ }
-    requires { ⌜ Stands (length (now bytes)) s ⌝ }
+    requires { ⌜ Stands (length (now bytes)) s × (s .to - s .from < length (now bytes)) ⌝ }
     ensures { λ r. ⌜ Stands (length (now (bytes .entry))) r ⌝ }
 {
     let left = carry(bytes, s.from, s.to);
@@ -203,7 +204,7 @@ fn read_on(bytes: &mut [u8], text: &mut [u8], words: &mut [u32], s: State, last:
 
 // What is to be done where a run has stopped: lines to write, the last event, the last line, or more of the input.
 fn step(bytes: &mut [u8], text: &mut [u8], words: &mut [u32], s: State) -> State
-    requires { ⌜ (65472 ≤ length (now text)) × (5952 ≤ length (now words)) ⌝ }
+    requires { ⌜ (18 ≤ length (now bytes)) × (65472 ≤ length (now text)) × (5952 ≤ length (now words)) ⌝ }
     requires { ⌜ Stands (length (now bytes)) s ⌝ }
     ensures { λ r. ⌜ Stands (length (now (bytes .entry))) r ⌝ }
 {

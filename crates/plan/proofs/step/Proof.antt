@@ -1,5 +1,7 @@
 -- `plan::step` meets its contract: each way leaves the program standing where it may go on. Assumes nothing.
 use native.Mathlib.Omega.{arith}
+use lib.ListN.{length-take, length-drop}
+use Rattle.plan.proofs.Left.{left-told}
 use borrow.Author.Needs.{needs}
 use Rattle.plan.proofs.step.Statement.{statement}
 use Rattle.plan.proofs.step.Tie as tie
@@ -68,7 +70,12 @@ returns-4 c =
     record { ordered = omega arith; within = omega arith; fits = omega arith; events = e .3 }
 
 read-on-requires : tie.Need-read-on-requires
-read-on-requires c κs = search needs
+read-on-requires c κs =
+    let n = c .before .before .before .before .before .before .before .numbers-of .ensures in
+    let r = c .before .before .before .before .before .before .before .before .read-at .ensures .0 in
+    let short = left-told _ r (n .0) (n .2) (omega arith) (c .before .before .before .if4 .left) in
+    let left = simp (length-drop, length-take) at short in
+    (search needs, (search needs, omega (arith, left)))
 
 same-length-9 : tie.Need-same-length-9
 same-length-9 c = search needs
