@@ -255,3 +255,8 @@ map-range g h a (x ∷ xs) d f =
     let first : g a ≡ h x = ap g (sym z) ∙ f 0 (omega arith) in
     let rest = map-range g h (suc a) xs d (λ i l. let y : suc a + i ≡ a + suc i = omega arith in ap g y ∙ f (suc i) (omega arith)) in
     ap₂ (λ y ys. y ∷ ys) first rest
+
+pub range-length : (a n : ℕ) → length (range a n) ≡ n
+unfolding range
+range-length a zero = refl
+range-length a (suc n) = ap suc (range-length (suc a) n)

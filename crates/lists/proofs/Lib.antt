@@ -2,3 +2,4 @@ pub mod Bools
 pub mod Members
 pub mod Order
 pub mod Append
+pub mod Stores

@@ -10,16 +10,12 @@ use lib.Dec.{ltb}
 use lib.ListN.{length, take, drop, set, length-append, length-map}
 use lib.Seq.{sets, sets-eq, length-sets, take-all, take-append-seam}
 use Rattle.lists.specs.Lists.{range, overFront}
-use Rattle.lists.proofs.Append.{range-more}
+use Rattle.lists.proofs.Append.{range-more, range-length}
+use Rattle.lists.proofs.Stores.{sets-append}
 use Rattle.ways.specs.Ways.{pair}
 use Rattle.planners.specs.Openings.{Place, pairWords}
 use Rattle.openings.specs.declared.Filled.{Filled}
 use Rattle.openings.specs.Filled.{filledOf, runAt}
-
--- stores behind stores
-sets-append : (l : List ℕ) (i : ℕ) (xs ys : List ℕ) → sets (sets l i xs) (i + length xs) ys ≡ sets l i (xs ++ ys)
-sets-append l i [] ys = ap (λ k. sets l k ys) (let z : i + 0 ≡ i = omega arith in z)
-sets-append l i (x ∷ xs) ys = ap (λ k. sets (sets (set l i x) (suc i) xs) k ys) (let z : i + suc (length xs) ≡ suc i + length xs = omega arith in z) ∙ sets-append (set l i x) (suc i) xs ys
 
 words-append : (ps qs : List Place) → pairWords (ps ++ qs) ≡ pairWords ps ++ pairWords qs
 unfolding pairWords
@@ -30,11 +26,6 @@ words-length : (ps : List Place) → length (pairWords ps) ≡ 2 * length ps
 unfolding pairWords
 words-length [] = refl
 words-length (p ∷ ps) = let h = words-length ps in omega arith
-
-range-length : (a n : ℕ) → length (range a n) ≡ n
-unfolding range
-range-length a zero = refl
-range-length a (suc n) = ap suc (range-length (suc a) n)
 
 pub run-length : (t from n : ℕ) → length (runAt t from n) ≡ n
 run-length t from n = length-map (range from n) (pair t) ∙ range-length from n

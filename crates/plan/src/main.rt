@@ -1,0 +1,304 @@
+// The program `plan` of document 01: event records on standard input, a header and a line for each on standard output.
+ghost use mathlib.Core.Path.{_≡_};
+ghost use mathlib.Core.Bool.{false};
+ghost use mathlib.Core.List.{[], _∷_};
+ghost use Prim.Native.Nat.{_+_, _-_, _*_, _≤_, _<_};
+ghost use lib.ListN.{length, take, drop};
+ghost use lib.Seq.{sets};
+ghost use Rattle.lists.specs.Lists.{overFront};
+ghost use Rattle.events.specs.Records.{kindOf, toldRead};
+ghost use Rattle.plan.specs.Streams.{Stands};
+use board::Board;
+use events::Event;
+use events::Reading;
+use libc::STDIN_FILENO;
+use libc::STDOUT_FILENO;
+use session::Ran;
+
+// Where the program stands: the bytes from `from` to `to` wait, and so do some lines; the events so far; whether to go on.
+struct State {
+    from: usize,
+    to: usize,
+    lines: usize,
+    number: u32,
+    more: bool,
+}
+
+// What a reading is in 01's numbers.
+struct Told {
+    number: u8,
+    kind: u8,
+    taken: usize,
+}
+
+fn kind_of(event: Event) -> u8
+    ensures { λ r. ⌜ r ≡ kindOf event ⌝ }
+{
+    match event {
+        Event::NewBoard {
+            columns: _,
+            rows: _,
+        } => 1,
+        Event::Submit {
+            planner: _,
+            task: _,
+        } => 2,
+        Event::Clock { instant: _ } => 3,
+        Event::Withdraw { id: _ } => 4,
+    }
+}
+
+fn numbers_of(reading: Reading) -> Told
+    ensures { λ r. ⌜ (r .number ≡ toldRead reading .number) × (r .kind ≡ toldRead reading .kind) × (r .taken ≡ toldRead reading .taken) ⌝ }
+{
+    match reading {
+        Reading::End => Told {
+            number: 0,
+            kind: 0,
+            taken: 0,
+        },
+        Reading::Got(event, size) => Told {
+            number: 0,
+            kind: kind_of(event),
+            taken: size,
+        },
+        Reading::CutShort(kind) => Told {
+            number: 15,
+            kind: kind,
+            taken: 0,
+        },
+        Reading::Unknown(kind) => Told {
+            number: 16,
+            kind: kind,
+            taken: 0,
+        },
+    }
+}
+
+// "After 15 or 16 it prints that line (kind as the byte read, zeros)": its six words.
+fn put_last(words: &mut [u32], at: usize, number: u32, kind: u32, answer: u32)
+    requires { ⌜ at + 6 ≤ length (now words) ⌝ }
+    ensures { λ _. ⌜ now (words .exit) ≡ sets (now (words .entry)) at (number ∷ kind ∷ answer ∷ 0 ∷ 0 ∷ 0 ∷ []) ⌝ }
+{
+    words[at] = number;
+    words[at + 1] = kind;
+    words[at + 2] = answer;
+    words[at + 3] = 0;
+    words[at + 4] = 0;
+    words[at + 5] = 0;
+}
+
+// A record may lie across two pieces of the input: what is left of a piece moves to the front of the buffer.
+fn carry(bytes: &mut [u8], from: usize, to: usize) -> usize
+    requires { ⌜ (from ≤ to) × (to ≤ length (now bytes)) ⌝ }
+    ensures { λ r. ⌜ r ≡ to - from ⌝ }
+    ensures { λ _. ⌜ now (bytes .exit) ≡ overFront (take (to - from) (drop from (now (bytes .entry)))) (now (bytes .entry)) ⌝ }
+{
+    let n = to - from;
+    let mut i = 0;
+    while i < n {
+        bytes[i] = bytes[from + i];
+        i += 1;
+    }
+    n
+}
+
+// Writes the lines that wait; where that fails, says so on standard error.
+fn flush(text: &mut [u8], words: &[u32], lines: usize) -> bool
+    requires { ⌜ (lines * 66 ≤ length (now text)) × (lines * 6 ≤ length (now words)) ⌝ }
+{
+    let used = text::put_rows(text, words, lines);
+    let done = io::write_all(STDOUT_FILENO, &text[0..used]);
+    if !done {
+        os::fail(b"plan: cannot write");
+    }
+    done
+}
+
+// The lines that wait are written, and the run goes on from where it stands.
+fn written(text: &mut [u8], words: &[u32], s: State) -> State
+    requires { ⌜ (s .lines * 66 ≤ length (now text)) × (s .lines * 6 ≤ length (now words)) ⌝ }
+    ensures { λ r. ⌜ (r .from ≡ s .from) × (r .to ≡ s .to) × (r .lines ≡ 0) × (r .number ≡ s .number) ⌝ }
+{
+    let done = flush(text, words, s.lines);
+    State {
+        from: s.from,
+        to: s.to,
+        lines: 0,
+        number: s.number,
+        more: done,
+    }
+}
+
+// The lines that wait are written, and there are no more.
+fn ended(text: &mut [u8], words: &[u32], s: State) -> State
+    requires { ⌜ (s .lines * 66 ≤ length (now text)) × (s .lines * 6 ≤ length (now words)) ⌝ }
+    ensures { λ r. ⌜ (r .from ≡ s .from) × (r .to ≡ s .to) × (r .lines ≡ 0) × (r .number ≡ s .number) × (r .more ≡ false) ⌝ }
+{
+    flush(text, words, s.lines);
+    State {
+        from: s.from,
+        to: s.to,
+        lines: 0,
+        number: s.number,
+        more: false,
+    }
+}
+
+fn wide(x: u8) -> u32
+    ensures { λ r. ⌜ r ≡ x ⌝ }
+{
+    x as u32
+}
+
+// "After 15 or 16 it prints that line and stops"; at the end of the input there is none.
+fn stopped(text: &mut [u8], words: &mut [u32], s: State, last: Told) -> State
+    requires { ⌜ (65472 ≤ length (now text)) × (5952 ≤ length (now words)) × (s .lines < 992) × (s .number < 1000000000) ⌝ }
+    ensures { λ r. ⌜ (r .from ≡ s .from) × (r .to ≡ s .to) × (r .lines ≡ 0) × (r .number ≤ 1000000000) × (r .more ≡ false) ⌝ }
+{
+    if last.number == 0 {
+        return ended(text, words, s);
+    }
+    put_last(
+        words,
+        s.lines * 6,
+        s.number + 1,
+        wide(last.kind),
+        wide(last.number),
+    );
+    let more = State {
+        from: s.from,
+        to: s.to,
+        lines: s.lines + 1,
+        number: s.number + 1,
+        more: false,
+    };
+    ended(text, words, more)
+}
+
+// More of the input behind what is left of it. There is room for it, so 0 bytes are the end of the input, and there a record
+// that is cut short is 15. A read that fails is not the end.
+fn read_on(bytes: &mut [u8], text: &mut [u8], words: &mut [u32], s: State, last: Told) -> State
+    requires { ⌜ (65472 ≤ length (now text)) × (5952 ≤ length (now words)) × (s .lines < 992) × (s .number < 1000000000) ⌝ }
+    requires { ⌜ Stands (length (now bytes)) s × (s .to - s .from < length (now bytes)) ⌝ }
+    ensures { λ r. ⌜ Stands (length (now (bytes .entry))) r ⌝ }
+{
+    let left = carry(bytes, s.from, s.to);
+    let got = libc::read(STDIN_FILENO, &mut bytes[left..]);
+    if got < 0 {
+        os::fail(b"plan: cannot read");
+        return ended(text, words, s);
+    }
+    if got == 0 {
+        return stopped(text, words, s, last);
+    }
+    let n = io::count(got, &bytes[left..]);
+    State {
+        from: 0,
+        to: left + n,
+        lines: s.lines,
+        number: s.number,
+        more: true,
+    }
+}
+
+// What is to be done where a run has stopped: lines to write, the last event, the last line, or more of the input.
+fn step(bytes: &mut [u8], text: &mut [u8], words: &mut [u32], s: State) -> State
+    requires { ⌜ (18 ≤ length (now bytes)) × (65472 ≤ length (now text)) × (5952 ≤ length (now words)) ⌝ }
+    requires { ⌜ Stands (length (now bytes)) s ⌝ }
+    ensures { λ r. ⌜ Stands (length (now (bytes .entry))) r ⌝ }
+{
+    if s.lines == 992 {
+        return written(text, words, s);
+    }
+    if s.number == 1000000000 {
+        return ended(text, words, s);
+    }
+    let to = s.to;
+    let reading = events::read_at(&bytes[0..to], s.from);
+    let last = numbers_of(reading);
+    if 0 < last.taken {
+        return s;
+    }
+    if last.number == 16 {
+        return stopped(text, words, s, last);
+    }
+    read_on(bytes, text, words, s, last)
+}
+
+// The whole records of the bytes that wait, as far as there is room: their lines behind those that wait.
+fn run_on(board: Board, bytes: &[u8], words: &mut [u32], s: State) -> Ran
+    requires { ⌜ (length (now words) ≡ 5952) × Stands (length (now bytes)) s ⌝ }
+    ensures { λ r. ⌜ (s .from + r .taken ≤ s .to) × (s .lines + r .count ≤ 992) × (s .number + r .count ≤ 1000000000) ⌝ }
+{
+    let from = s.from;
+    let to = s.to;
+    let at = s.lines * 6;
+    session::run(board, s.number, &bytes[from..to], &mut words[at..])
+}
+
+// Where the program stands after a run: so many lines and bytes more.
+fn advanced(s: State, count: usize, taken: usize) -> State
+    requires { ⌜ (s .from + taken ≤ s .to) × (s .lines + count ≤ 992) × (s .number + count ≤ 1000000000) ⌝ }
+    ensures { λ r. ⌜ (r .from ≡ s .from + taken) × (r .to ≡ s .to) × (r .lines ≡ s .lines + count) × (r .number ≡ s .number + count) ⌝ }
+{
+    State {
+        from: s.from + taken,
+        to: s.to,
+        lines: s.lines + count,
+        number: s.number + count as u32,
+        more: true,
+    }
+}
+
+// A loop has to end, and nothing says that the input does: the turns that are left, 0 where there is no more.
+fn turns_left(more: bool, turns: u64) -> u64
+    requires { ⌜ 0 < turns ⌝ }
+    ensures { λ r. ⌜ r < turns ⌝ }
+{
+    if more { turns - 1 } else { 0 }
+}
+
+// The header; where it cannot be written, there is nothing to go on with.
+fn headed() -> bool {
+    let done = io::write_all(STDOUT_FILENO, b"event kind answer column start finish\n");
+    if !done {
+        os::fail(b"plan: cannot write");
+    }
+    done
+}
+
+// The words of the lines that wait: 992 lines, as many as a text of 65,536 bytes holds.
+fn no_lines() -> [u32; 5952]
+    ensures { λ r. ⌜ 5952 ≡ length r ⌝ }
+{
+    [0; 5952]
+}
+
+fn main() {
+    let mut bytes = io::large_buffer();
+    let mut text = io::large_buffer();
+    let mut words = no_lines();
+    let made = Board::new(0, 0);
+    let mut board = made.board;
+    let mut s = State {
+        from: 0,
+        to: 0,
+        lines: 0,
+        number: 0,
+        more: true,
+    };
+    let mut turns = turns_left(headed(), u64::MAX);
+    while 0 < turns {
+        let r = run_on(board, &bytes, &mut words, s);
+        let after = r.board;
+        board = after;
+        s = step(
+            &mut bytes,
+            &mut text,
+            &mut words,
+            advanced(s, r.count, r.taken),
+        );
+        turns = turns_left(s.more, turns);
+    }
+}

@@ -1,0 +1,4 @@
+pub mod Meaning
+pub mod Counting
+pub mod Spelling
+pub mod Rows

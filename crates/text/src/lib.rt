@@ -1,0 +1,126 @@
+// Numbers as text into a lent buffer, in ASCII: what the lines of the program `plan` are made of.
+ghost use mathlib.Core.Path.{_≡_};
+ghost use mathlib.Core.List.{[], _∷_, _++_};
+ghost use Prim.Native.Nat.{_+_, _*_, _≤_};
+ghost use lib.ListN.{length, take, drop};
+ghost use lib.Seq.{sets};
+ghost use Rattle.lists.specs.Lists.{overFront};
+ghost use Rattle.text.specs.Text.{decimal, rowText, rowsText, rowsOf};
+ghost use Rattle.text.specs.Digits.{lastDigits, Put};
+
+// How many digits a number has. By comparisons: a division for each would take longer than all of them.
+fn digits(x: u32) -> usize
+    ensures { λ r. ⌜ (r ≤ 10) × (lastDigits r x ≡ decimal x) ⌝ }
+{
+    if x < 10 {
+        return 1;
+    }
+    if x < 100 {
+        return 2;
+    }
+    if x < 1000 {
+        return 3;
+    }
+    if x < 10000 {
+        return 4;
+    }
+    if x < 100000 {
+        return 5;
+    }
+    if x < 1000000 {
+        return 6;
+    }
+    if x < 10000000 {
+        return 7;
+    }
+    if x < 100000000 {
+        return 8;
+    }
+    if x < 1000000000 {
+        return 9;
+    }
+    10
+}
+
+// The last n digits of a number, from the last one backwards: each is what a division by ten leaves.
+fn spell(out: &mut [u8], at: usize, n: usize, x: u32)
+    requires { ⌜ at + n ≤ length (now out) ⌝ }
+    ensures { λ _. ⌜ now (out .exit) ≡ sets (now (out .entry)) at (lastDigits n x) ⌝ }
+{
+    let mut i = n;
+    let mut rest = x;
+    while 0 < i {
+        i -= 1;
+        out[at + i] = 48 + (rest % 10) as u8;
+        rest = rest / 10;
+    }
+}
+
+// A number from a place of the buffer on; the place after it.
+pub fn put_decimal(out: &mut [u8], at: usize, x: u32) -> usize
+    requires { ⌜ at + 10 ≤ length (now out) ⌝ }
+    ensures { λ r. ⌜ r ≡ at + length (decimal x) ⌝ }
+    ensures { λ r. ⌜ now (out .exit) ≡ sets (now (out .entry)) at (decimal x) ⌝ }
+    ensures { λ r. ⌜ r ≤ at + 10 ⌝ }
+{
+    let n = digits(x);
+    spell(out, at, n, x);
+    at + n
+}
+
+// A number and the byte that ends it; the place after both.
+fn put_ended(out: &mut [u8], at: usize, x: u32, end: u8) -> usize
+    requires { ⌜ at + 11 ≤ length (now out) ⌝ }
+    ensures { λ r. ⌜ Put (now (out .entry)) at (decimal x ++ (end ∷ [])) (now (out .exit)) r ⌝ }
+    ensures { λ r. ⌜ r ≤ at + 11 ⌝ }
+{
+    let after = put_decimal(out, at, x);
+    out[after] = end;
+    after + 1
+}
+
+// "event number .., kind, answer, column, start, finish": six numbers of a line; the place after it.
+fn put_six(out: &mut [u8], at: usize, a: u32, b: u32, c: u32, d: u32, e: u32, f: u32) -> usize
+    requires { ⌜ at + 66 ≤ length (now out) ⌝ }
+    ensures { λ r. ⌜ Put (now (out .entry)) at (rowText (a ∷ b ∷ c ∷ d ∷ e ∷ f ∷ [])) (now (out .exit)) r ⌝ }
+    ensures { λ r. ⌜ r ≤ at + 66 ⌝ }
+{
+    let b_at = put_ended(out, at, a, b' ');
+    let c_at = put_ended(out, b_at, b, b' ');
+    let d_at = put_ended(out, c_at, c, b' ');
+    let e_at = put_ended(out, d_at, d, b' ');
+    let f_at = put_ended(out, e_at, e, b' ');
+    put_ended(out, f_at, f, b'\n')
+}
+
+// A row: the six words from a place on; the place after the line.
+pub fn put_row(out: &mut [u8], at: usize, words: &[u32], from: usize) -> usize
+    requires { ⌜ (at + 66 ≤ length (now out)) × (from + 6 ≤ length (now words)) ⌝ }
+    ensures { λ r. ⌜ r ≡ at + length (rowText (take 6 (drop from (now (words .entry))))) ⌝ }
+    ensures { λ r. ⌜ now (out .exit) ≡ sets (now (out .entry)) at (rowText (take 6 (drop from (now (words .entry))))) ⌝ }
+    ensures { λ r. ⌜ r ≤ at + 66 ⌝ }
+{
+    let a = words[from];
+    let b = words[from + 1];
+    let c = words[from + 2];
+    let d = words[from + 3];
+    let e = words[from + 4];
+    let f = words[from + 5];
+    put_six(out, at, a, b, c, d, e, f)
+}
+
+// The first `count` rows of the words at the front of the buffer; how many bytes they take.
+pub fn put_rows(out: &mut [u8], words: &[u32], count: usize) -> usize
+    requires { ⌜ (count * 66 ≤ length (now out)) × (count * 6 ≤ length (now words)) ⌝ }
+    ensures { λ r. ⌜ r ≡ length (rowsText (rowsOf count (now (words .entry)))) ⌝ }
+    ensures { λ r. ⌜ now (out .exit) ≡ overFront (rowsText (rowsOf count (now (words .entry)))) (now (out .entry)) ⌝ }
+    ensures { λ r. ⌜ r ≤ count * 66 ⌝ }
+{
+    let mut at: usize = 0;
+    let mut i: usize = 0;
+    while i < count {
+        at = put_row(out, at, words, i * 6);
+        i += 1;
+    }
+    at
+}
