@@ -36,7 +36,7 @@ same-length c = search needs
 
 returns : tie.Need-returns
 returns c =
-    let e = c .before .before .run .ensures in
+    let e = c .before .before .run .ensures .1 .1 in
     let w = c .before .before .before .run-arg2 .given .1 in
     (omega arith, omega (arith, e .0, w), e .2 (omega arith))
 
