@@ -15,7 +15,7 @@ decimalIn (suc most) x = cond (ltb x 10) ((48 + x) ∷ []) (decimalIn most (x / 
 unfoldable pub decimal : ℕ → List ℕ
 decimal x = decimalIn (suc x) x
 
--- "six numbers a line": the numbers of a row, parted by one space (32) and ended by a newline (10)
+-- "a line each", as 01 prints the listing: the numbers of a row, parted by one space (32) and ended by a newline (10)
 unfoldable pub rowText : List ℕ → List ℕ
 rowText [] = 10 ∷ []
 rowText (x ∷ []) = decimal x ++ (10 ∷ [])

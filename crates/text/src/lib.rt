@@ -79,7 +79,7 @@ fn put_ended(out: &mut [u8], at: usize, x: u32, end: u8) -> usize
     after + 1
 }
 
-// "event number .., kind, answer, column, start, finish": six numbers of a line; the place after it.
+// "event number from 1, kind, answer, column, start, finish": the six numbers of a line; the place after it.
 fn put_six(out: &mut [u8], at: usize, a: u32, b: u32, c: u32, d: u32, e: u32, f: u32) -> usize
     requires { ⌜ at + 66 ≤ length (now out) ⌝ }
     ensures { λ r. ⌜ Put (now (out .entry)) at (rowText (a ∷ b ∷ c ∷ d ∷ e ∷ f ∷ [])) (now (out .exit)) r ⌝ }
