@@ -32,7 +32,7 @@ use Rattle.session.specs.Recording.{Line, lineOf, Outcome, outcome, most
 use Rattle.session.specs.Standing.{Kept, Follows, asBooked, changed, Took}
 
 -- a whole record, and none
-ran-got : (m : ℕ) (b : Board) (n : ℕ) (bytes : List ℕ) (v : Event) (size : ℕ) → readFrom bytes ≡ Got v size
+pub ran-got : (m : ℕ) (b : Board) (n : ℕ) (bytes : List ℕ) (v : Event) (size : ℕ) → readFrom bytes ≡ Got v size
     → ranFrom (suc m) b n bytes ≡ record { lines = lineOf (suc n) (kindOf v) (outcome b v .answer) ∷ ranFrom m (outcome b v .board) (suc n) (drop size bytes) .lines; board = ranFrom m (outcome b v .board) (suc n) (drop size bytes) .board; taken = size + ranFrom m (outcome b v .board) (suc n) (drop size bytes) .taken }
 unfolding ranFrom
 ran-got m b n bytes v size e = rw (e, ranFrom)
@@ -41,7 +41,7 @@ ran-zero : (b : Board) (n : ℕ) (bytes : List ℕ) → ranFrom zero b n bytes �
 unfolding ranFrom
 ran-zero b n bytes = refl
 
-ran-none : (m : ℕ) (b : Board) (n : ℕ) (bytes : List ℕ) → ((v : Event) (size : ℕ) → readFrom bytes ≡ Got v size → ⊥) → ranFrom m b n bytes ≡ still b
+pub ran-none : (m : ℕ) (b : Board) (n : ℕ) (bytes : List ℕ) → ((v : Event) (size : ℕ) → readFrom bytes ≡ Got v size → ⊥) → ranFrom m b n bytes ≡ still b
 unfolding ranFrom
 ran-none zero b n bytes f = refl
 ran-none (suc m) b n bytes f = go (readFrom bytes) refl
