@@ -1,17 +1,18 @@
 #!/bin/bash
-# time.sh: times a program `plan` against baseline_plan.rs, the same job as a plain Rust program.
+# time.sh: times a program `plan` against two plain Rust programs of the same job: baseline_slots.rs (a `&mut` board of 64 slots)
+# and baseline_plan.rs (the same made faster: live tasks dense in a vector).
 #
 #   time.sh PLAN-PROGRAM [EVENTS]
 #   environment: RUN=COMMAND put before PLAN-PROGRAM; SEED=N (default 1)
 #
-# Three recordings of 200,000 events by generate: the paper's workload on 96 x 64, W 256, boards with 64 live tasks. Both
-# programs run by turns, five times each, output to /dev/null; the best user + system time of each counts. Prints the times,
-# the ratios plan / baseline, and the peak memory of plan. Ends with 1 if the two print different lines, with 2 for a wrong
-# call.
+# Three recordings of 200,000 events by generate: the paper's workload on 96 x 64, W 256, boards with 64 live tasks. The
+# programs run by turns, seven times each, output to /dev/null; the best user + system time of each counts. Prints the times, the
+# ratios plan / slots and plan / dense, and the peak memory of plan. Ends with 1 if they print different lines, with 2 for a
+# wrong call.
 set -u
 here=$(cd "$(dirname "$0")" && pwd -P)
 fail() { echo "time.sh: $*" >&2; exit 2; }
-[ $# -ge 1 ] && [ $# -le 2 ] || { sed -n '2,10p' "$0" >&2; exit 2; }
+[ $# -ge 1 ] && [ $# -le 2 ] || { sed -n '2,11p' "$0" >&2; exit 2; }
 plan=$1 events=${2:-200000} seed=${SEED:-1}
 case $plan in */*) ;; *) [ -f "$plan" ] && plan=./$plan ;; esac
 [ -n "${RUN:-}" ] || command -v "$plan" >/dev/null || fail "cannot run $plan"
@@ -20,19 +21,23 @@ for tool in rustc python3; do command -v $tool >/dev/null || fail "$tool is not 
 work=$(mktemp -d) || fail "no temporary folder"
 trap 'rm -rf "$work"' EXIT
 rustc -O --edition 2021 "$here/generate.rs" -o "$work/generate" || fail "generate.rs does not compile"
-rustc -C opt-level=3 --edition 2021 "$here/baseline_plan.rs" -o "$work/baseline_plan" || fail "baseline_plan.rs does not compile"
+for baseline in baseline_slots baseline_plan; do
+    rustc -C opt-level=3 --edition 2021 "$here/$baseline.rs" -o "$work/$baseline" || fail "$baseline.rs does not compile"
+done
 for profile in paper wide crowded; do
     "$work/generate" "$profile" "$seed" "$events" >"$work/$profile" || fail "generate $profile failed"
-    "$work/baseline_plan" <"$work/$profile" >"$work/one" || fail "baseline_plan failed"
     ${RUN:-} "$plan" <"$work/$profile" >"$work/two"
-    cmp "$work/one" "$work/two" >&2 || { echo "time.sh: $plan and baseline_plan print different lines on generate $profile $seed $events" >&2; exit 1; }
+    for baseline in baseline_slots baseline_plan; do
+        "$work/$baseline" <"$work/$profile" >"$work/one" || fail "$baseline failed"
+        cmp "$work/one" "$work/two" >&2 || { echo "time.sh: $plan and $baseline print different lines on generate $profile $seed $events" >&2; exit 1; }
+    done
 done
 echo "machine: $(uname -m), $(sed -n 's/^model name[^:]*: //p' /proc/cpuinfo | head -1)"
 python3 - "$work" "$events" ${RUN:-} "$plan" <<'P'
 import fcntl, os, sys, termios, time
 
 work, events, plan = sys.argv[1], int(sys.argv[2]), sys.argv[3:]
-baseline = [work + "/baseline_plan"]
+baselines = [[work + "/baseline_slots"], [work + "/baseline_plan"]]
 
 def once(command, recording):
     with open(recording, "rb") as f:
@@ -62,15 +67,13 @@ def peak(command, recording):
     os.wait4(child, 0)
     return kib
 
-print("recording      plan ms  baseline ms  ratio  plan events/s  peak memory of plan KiB")
+print("recording      plan ms  slots ms  plan/slots  dense ms  plan/dense  ns an event  peak memory of plan KiB")
 for name, profile in (("paper 96 x 64", "paper"), ("W 256", "wide"), ("64 live", "crowded")):
-    ours, theirs = [], []
-    for _ in range(5):
-        ours.append(once(plan, f"{work}/{profile}"))
-        theirs.append(once(baseline, f"{work}/{profile}"))
-    a, b = min(ours), min(theirs)
-    rate = f"{events / a:14.0f}" if a > 0 else "             -"
-    ratio = f"{a / b:6.2f}" if b > 0 else "     -"
+    best = [float("inf")] * 3
+    for _ in range(7):
+        for i, command in enumerate([plan] + baselines):
+            best[i] = min(best[i], once(command, f"{work}/{profile}"))
+    ours, slots, dense = best
     memory = peak(plan, f"{work}/{profile}")
-    print(f"{name:13} {1000 * a:8.1f} {1000 * b:12.1f} {ratio} {rate} {memory:24}")
+    print(f"{name:13} {1000 * ours:8.1f} {1000 * slots:9.1f} {ours / max(slots, 1e-9):11.2f} {1000 * dense:9.1f} {ours / max(dense, 1e-9):11.2f} {1e9 * ours / events:12.0f} {memory:24}")
 P
