@@ -12,6 +12,7 @@ use lib.ListN.{length, drop, set, replicate, length-append, length-drop}
 use Rattle.tasks.specs.Tasks.{freeSlot}
 use lib.Seq.{sets, sets-eq, length-sets, drop-drop}
 use Rattle.lists.specs.Lists.{all?, overFront}
+use Rattle.lists.proofs.Stores.{sets-append}
 use Rattle.tasks.specs.declared.Task.{Task}
 use Rattle.slots.specs.Slots.{slotSound, sound, allAgedTo}
 use Rattle.slots.proofs.Soundness.{each-sound, sound-out}
@@ -61,10 +62,6 @@ words-length : (xs : List Line) → length (lineWords xs) ≡ length xs * 6
 unfolding lineWords
 words-length [] = refl
 words-length (x ∷ xs) = let h = words-length xs in omega arith
-
-sets-append : (l : List ℕ) (i : ℕ) (xs ys : List ℕ) → sets (sets l i xs) (i + length xs) ys ≡ sets l i (xs ++ ys)
-sets-append l i [] ys = ap (λ k. sets l k ys) (let z : i + 0 ≡ i = omega arith in z)
-sets-append l i (x ∷ xs) ys = ap (λ k. sets (sets (set l i x) (suc i) xs) k ys) (let z : i + suc (length xs) ≡ suc i + length xs = omega arith in z) ∙ sets-append (set l i x) (suc i) xs ys
 
 -- an event's change to the records, as the code makes it
 pub changed-put : (e : Done) (tasks : List Task) → e .slot < 64 → set tasks (e .slot) (e .task) ≡ changed e tasks
