@@ -1,1 +1,3 @@
 pub mod Proved
+pub mod Unique
+pub mod Session

@@ -1,3 +1,4 @@
 pub mod Cases
 pub mod ProvingSet
 pub mod Edges
+pub mod Ledger

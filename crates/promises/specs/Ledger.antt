@@ -1,0 +1,44 @@
+-- What was promised over a session: the accepted tasks since the last new board that were not withdrawn. Assumes nothing.
+use Prim.Native.Nat.{ℕ, zero, suc}
+use mathlib.Core.Bool.{not, _&&_}
+use mathlib.Core.List.{List, [], _∷_}
+use lib.Dec.{ltb, eqb}
+use Rattle.lists.specs.Lists.{keep}
+use Rattle.tasks.specs.declared.Task.{Task}
+use Rattle.tasks.specs.declared.Submission.{Submission}
+use Rattle.tasks.specs.Tasks.{booked}
+use Rattle.board.specs.declared.Board.{Board}
+use Rattle.board.specs.declared.Answer.{Answer}
+use Rattle.board.specs.declared.Answer.the-variants.{Rejected, Placed, Refused}
+use Rattle.board.specs.Calls.{submitted, withdrawn}
+use Rattle.events.specs.declared.Event.{Event}
+use Rattle.events.specs.declared.Event.the-variants.{NewBoard, Submit, Clock, Withdraw}
+use Rattle.session.specs.Recording.{outcome}
+
+-- a place answered is a promise: the task with its column and start
+unfoldable pub entered : Board → Submission → Answer → List Task → List Task
+entered b a Rejected ks = ks
+entered b a (Placed c s f) ks = booked (b .now) a s c ∷ ks
+entered b a (Refused n) ks = ks
+
+-- a withdrawal that is not refused strikes the waiting task of that id
+unfoldable pub struck : Board → ℕ → ℕ → List Task → List Task
+struck b zero n ks = keep (λ k. not (eqb (k .id) n && ltb (b .now) (k .start))) ks
+struck b (suc m) n ks = ks
+
+-- the promises after an event; "between one new board and the next"
+unfoldable pub ledgerAfter : Board → List Task → Event → List Task
+ledgerAfter b ks (NewBoard W H) = []
+ledgerAfter b ks (Submit n a) = entered b a (submitted b n a .answer) ks
+ledgerAfter b ks (Clock i) = ks
+ledgerAfter b ks (Withdraw n) = struck b (withdrawn b n .number) n ks
+
+-- a board with the promises made on it
+pub record Account : Type 0 where
+  pub board : Board
+  pub promises : List Task
+
+-- a session, by the book's run
+unfoldable pub accountAfter : Account → List Event → Account
+accountAfter c [] = c
+accountAfter c (v ∷ vs) = accountAfter (record { board = outcome (c .board) v .board; promises = ledgerAfter (c .board) (c .promises) v }) vs
