@@ -1,3 +1,4 @@
 pub mod Proved
 pub mod Unique
 pub mod Session
+pub mod Demands

@@ -1,0 +1,126 @@
+-- THE THREE DEMANDS, theorem by theorem, in their words. Each call's promise is one equation to the book (`r ≡ submitted self planner a`, and so on: docs/PROMISES.md), so that what is said here of the book is said of the calls. Assumes nothing.
+use Prim.Native.Nat.{ℕ, suc, _/_, _≤_, _<_}
+use mathlib.Core.Path.{_≡_}
+use mathlib.Core.Logic.{_⊎_}
+use mathlib.Core.Bool.{false}
+use mathlib.Core.Option.{none, some}
+use mathlib.Core.List.{List, [], _∷_, _++_, map}
+use native.Mathlib.Omega.{arith}
+use lib.Dec.{T}
+use lib.ListN.{length, take, drop}
+use Rattle.lists.specs.Lists.{_∈_, head?, lastOr}
+use Rattle.lists.proofs.Order.{Sorted}
+use Rattle.ways.specs.Ways.{pair}
+use Rattle.tasks.specs.declared.Task.{Task}
+use Rattle.tasks.specs.declared.Submission.{Submission}
+use Rattle.tasks.specs.Tasks.{finish, live}
+use Rattle.columns.specs.Columns.{columns}
+use Rattle.planners.specs.Openings.{Place, openings}
+use Rattle.planners.specs.Planners.{release, visited, candidates, releasedEdges, stuffing, horizon}
+use Rattle.planners.proofs.Openings.{Opening, Before}
+use Rattle.planners.proofs.Planners.{Answers, stuffing-answers, stuffing-rejects, horizon-answers, horizon-rejects}
+use Rattle.board.specs.declared.Board.{Board}
+use Rattle.board.specs.declared.Answer.the-variants.{Placed, Rejected, Refused}
+use Rattle.board.specs.Refusals.{liveOf, refusedSubmit, refusedInstant, refusedWithdraw, refusedOpenings, refusedHorizon}
+use Rattle.board.specs.Calls.{taken, submitted, clocked, withdrawn, remaining, opened, openedBuffer, listed, listedBuffer, counted}
+use Rattle.board.proofs.Kept.{SoundBoard, slotAt, refused-submit-same, refused-clock-same, refused-withdraw-same, submitted-keeps, Clocks, clocked-keeps, Withdraws, withdrawn-moves-none}
+use Rattle.board.proofs.Window.{Reachable, refused-opened}
+use Rattle.board.proofs.Looked.{refused-horizon-same, refused-busy-same}
+use Rattle.board.proofs.Placed.{full-placed, full-rejected}
+use Rattle.board.proofs.Asking.{given, asking, IsOpening, given-first, left-opens, opens-left, left-ordered, none-missed, asking-from-none, full-takes-given}
+use Rattle.events.specs.declared.Event.{Event}
+use Rattle.events.specs.declared.Reading.the-variants.{Got}
+use Rattle.events.specs.declared.Written.the-variants.{NoRoom}
+use Rattle.events.specs.Records.{recordOf, readFrom, written, writtenBuffer}
+use Rattle.events.proofs.RoundTrip.{Fits, Bytes, read-written, written-again}
+use Rattle.events.proofs.Calls.{refused-stays}
+
+-- DEMAND 1. "Bad input gets the refusal number that document 01 fixes .. a refusal hands the board back as it came and writes nothing to a lent buffer."
+-- (That every call takes any board, task, instant or buffer and ends: no public call has a `requires`, and each is proved to end.)
+pub demand-1-submission : (b : Board) (n : ℕ) (a : Submission) (k : ℕ) → refusedSubmit b n a ≡ suc k → submitted b n a ≡ record { answer = Refused (suc k); board = b }
+demand-1-submission = refused-submit-same
+
+pub demand-1-clock : (b : Board) (i k : ℕ) → refusedInstant b i ≡ suc k → clocked b i ≡ record { number = suc k; board = b }
+demand-1-clock = refused-clock-same
+
+pub demand-1-withdrawal : (b : Board) (n k : ℕ) → refusedWithdraw b n ≡ suc k → withdrawn b n ≡ record { number = suc k; board = b }
+demand-1-withdrawal = refused-withdraw-same
+
+pub demand-1-openings : (b : Board) (a : Submission) (s c : ℕ) (buffer : List ℕ) (k : ℕ) → refusedOpenings b a ≡ suc k
+    → (record { number = suc k; count = 0; more = false; board = b } ≡ opened b a s c (length buffer)) × (buffer ≡ openedBuffer b a s c buffer)
+demand-1-openings b a s c buffer k e = refused-opened b a s c buffer (suc k) e (omega arith)
+
+pub demand-1-horizon : (b : Board) (buffer : List ℕ) (k : ℕ) → refusedHorizon b (length buffer) ≡ suc k
+    → (listed b (length buffer) ≡ record { number = suc k; count = 0; board = b }) × (listedBuffer b buffer ≡ buffer)
+demand-1-horizon = refused-horizon-same
+
+pub demand-1-busy : (b : Board) (i k : ℕ) → refusedInstant b i ≡ suc k → counted b i ≡ record { number = suc k; count = 0; board = b }
+demand-1-busy = refused-busy-same
+
+pub demand-1-writer : (v : Event) (buffer : List ℕ) → written v (length buffer) ≡ NoRoom → writtenBuffer v buffer ≡ buffer
+demand-1-writer = refused-stays
+
+-- DEMAND 2. "Reference, Horizon and Stuffing answer exactly as published": at the least visited time that has a candidate, with the first there
+pub demand-2-stuffing : (W now : ℕ) (ts : List Task) (a : Submission) {p : Place} → stuffing W now ts a ≡ some p → Answers (candidates W now ts a) (visited W now ts a (map finish ts)) p
+demand-2-stuffing W now ts a e = stuffing-answers W now ts a e
+
+pub demand-2-stuffing-rejects : (W now : ℕ) (ts : List Task) (a : Submission) → stuffing W now ts a ≡ none → (i : ℕ) → i ∈ visited W now ts a (map finish ts) → candidates W now ts a i ≡ []
+demand-2-stuffing-rejects W now ts a e = stuffing-rejects W now ts a e
+
+pub demand-2-horizon : (W now : ℕ) (ts : List Task) (a : Submission) {p : Place} → horizon W now ts a ≡ some p → Answers (releasedEdges W now ts a) (visited W now ts a (map (release now ts) (columns W))) p
+demand-2-horizon W now ts a e = horizon-answers W now ts a e
+
+pub demand-2-horizon-rejects : (W now : ℕ) (ts : List Task) (a : Submission) → horizon W now ts a ≡ none → (i : ℕ) → i ∈ visited W now ts a (map (release now ts) (columns W)) → releasedEdges W now ts a i ≡ []
+demand-2-horizon-rejects W now ts a e = horizon-rejects W now ts a e
+
+-- "booking, clock, withdrawal .. follow its rules": a live task keeps its slot, columns and start under each of them
+pub demand-2-booking : (b : Board) (n : ℕ) (a : Submission) (i : ℕ) → i < length (b .tasks) → T (live (slotAt b i)) → slotAt (submitted b n a .board) i ≡ slotAt b i
+demand-2-booking = submitted-keeps
+
+pub demand-2-clock : (b : Board) (t i : ℕ) → i < length (b .tasks) → T (live (slotAt b i)) → Clocks (clocked b t .board) (slotAt b i) (slotAt (clocked b t .board) i)
+demand-2-clock = clocked-keeps
+
+pub demand-2-withdrawal : (b : Board) (n i : ℕ) → i < length (b .tasks) → T (live (slotAt b i)) → Withdraws (b .now) n (slotAt b i) (slotAt (withdrawn b n .board) i)
+demand-2-withdrawal = withdrawn-moves-none
+
+-- "event records read back as written and written again give the same bytes"
+pub demand-2-read-back : (v : Event) → Fits v → (rest : List ℕ) → readFrom (recordOf v ++ rest) ≡ Got v (length (recordOf v))
+demand-2-read-back = read-written
+
+pub demand-2-written-again : (l : List ℕ) → Bytes l → (v : Event) (size : ℕ) → readFrom l ≡ Got v size → recordOf v ≡ take size l
+demand-2-written-again = written-again
+
+-- DEMAND 3, of the openings call on a sound board, for a well-formed task whose deadline can still be reached
+module _ (b : Board) (a : Submission) (s : SoundBoard b) (k : Reachable b a) where
+  -- what a call after the pair p gives is the first of what comes after p, as many as fit
+  pub demand-3-given : (p : Place) (buffer : List ℕ) → given b a p buffer ≡ take (length buffer / 2) (remaining b a (p .start) (p .place))
+  demand-3-given = given-first b a s k
+
+  -- "The list of openings holds every opening": it starts from now on, lies within the device, overlaps no live task and meets the deadline
+  pub demand-3-every : (p q : Place) → IsOpening b a q → Before p q → q ∈ remaining b a (p .start) (p .place)
+  demand-3-every = opens-left b a s k
+
+  pub demand-3-only : (p q : Place) → q ∈ remaining b a (p .start) (p .place) → IsOpening b a q × Before p q
+  demand-3-only = left-opens b a s k
+
+  -- "exactly once, in order"
+  pub demand-3-order : (p : Place) → Sorted Before (remaining b a (p .start) (p .place))
+  demand-3-order = left-ordered b a s k
+
+  -- two calls never both miss one
+  pub demand-3-none-missed : (p q : Place) (buffer : List ℕ) → IsOpening b a q → Before p q → (q ∈ given b a p buffer) ⊎ Before (lastOr p (given b a p buffer)) q
+  demand-3-none-missed = none-missed b a s k
+
+  -- "asking on reaches its end"
+  pub demand-3-asking-on : (n : ℕ) (buffer : List ℕ) → 2 ≤ length buffer → length (openings (b .columns) (b .now) (liveOf b) a) ≤ n → asking b a n (pair 0 0) buffer ≡ openings (b .columns) (b .now) (liveOf b) a
+  demand-3-asking-on = asking-from-none b a s k
+
+  -- "Full takes the first and rejects exactly when there is none"
+  pub demand-3-full : (buffer : List ℕ) → 2 ≤ length buffer → refusedSubmit b 3 a ≡ 0 → submitted b 3 a ≡ taken b a (head? (given b a (pair 0 0) buffer))
+  demand-3-full = full-takes-given b a s k
+
+pub demand-3-full-first : (b : Board) (a : Submission) {c s f : ℕ} → submitted b 3 a .answer ≡ Placed c s f → (q : Place) → Opening (b .columns) (b .now) (liveOf b) a q → (q ≡ pair s c) ⊎ Before (pair s c) q
+demand-3-full-first b a e = full-placed b a e
+
+pub demand-3-full-rejects : (b : Board) (a : Submission) → submitted b 3 a .answer ≡ Rejected → (q : Place) → Opening (b .columns) (b .now) (liveOf b) a q → ⊥
+demand-3-full-rejects = full-rejected

@@ -1,0 +1,181 @@
+//! edges: a fixed recording (event records on standard output): the edges of every number range of document 01, its cases 10, 11
+//! and 12, and every set of refusals that one submission can have at once, on the board of zeros, on a board with one task and on
+//! one with 64. `crates/plan/stdin` begins with it; `second` says what `plan` has to print.
+//! Build: `rustc -O --edition 2021 tests/second/edges.rs -o edges` (std only).
+
+use std::io::Write;
+
+struct Tape(Vec<u8>);
+
+impl Tape {
+    fn board(&mut self, w: u16, h: u16) {
+        self.0.push(1);
+        self.0.extend(w.to_le_bytes());
+        self.0.extend(h.to_le_bytes());
+    }
+    fn submit(&mut self, planner: u8, id: u32, w: u16, h: u16, e: u32, d: u32) {
+        self.0.push(2);
+        self.0.push(planner);
+        self.0.extend(id.to_le_bytes());
+        self.0.extend(w.to_le_bytes());
+        self.0.extend(h.to_le_bytes());
+        self.0.extend(e.to_le_bytes());
+        self.0.extend(d.to_le_bytes());
+    }
+    fn clock(&mut self, t: u32) {
+        self.0.push(3);
+        self.0.extend(t.to_le_bytes());
+    }
+    fn withdraw(&mut self, id: u32) {
+        self.0.push(4);
+        self.0.extend(id.to_le_bytes());
+    }
+}
+
+const LAST: u32 = 2_000_000_000;
+
+/// W and H at and beside their limits, each with a call that needs a sound board.
+fn devices(t: &mut Tape) {
+    for w in [0, 1, 2, 255, 256, 257, u16::MAX] {
+        for h in [0, 1, 2, 1023, 1024, 1025, u16::MAX] {
+            t.board(w, h);
+            t.submit(3, 1, 1, 1, 1, 10);
+            t.clock(0);
+            t.withdraw(1);
+        }
+    }
+}
+
+/// Each field of a submission at and beside its limits, by every planner and by numbers that are none, at now 5 on 10 x 6.
+fn fields(t: &mut Tape) {
+    for planner in [0, 1, 2, 3, 4, 5, 255] {
+        let mut one = |id, w, h, e, d| {
+            t.board(10, 6);
+            t.clock(5);
+            t.submit(planner, id, w, h, e, d);
+            t.submit(planner, id, w, h, e, d);
+        };
+        for id in [0, 1, 2, u32::MAX - 1, u32::MAX] {
+            one(id, 3, 3, 4, 100);
+        }
+        for w in [0, 1, 9, 10, 11, u16::MAX] {
+            one(7, w, 3, 4, 100);
+        }
+        for h in [0, 1, 5, 6, 7, u16::MAX] {
+            one(7, 3, h, 4, 100);
+        }
+        for e in [0, 1, 999_999, 1_000_000, 1_000_001, u32::MAX] {
+            for d in [0, 5, 6, 7, 1_000_004, 1_000_005, 1_000_006, LAST - 1, LAST, LAST + 1, u32::MAX] {
+                one(7, 3, 3, e, d);
+            }
+        }
+    }
+}
+
+/// Case 10: an empty board; w = W done, w = W + 1 gives 5; d = now + e done, one less gives 8.
+fn case_10(t: &mut Tape) {
+    for planner in 0..4 {
+        for (w, d) in [(8, 30), (9, 30), (3, 24), (3, 23)] {
+            t.board(8, 2);
+            t.clock(20);
+            t.submit(planner, 1, w, 1, 4, d);
+        }
+    }
+}
+
+/// 64 tasks side by side on 256 columns; the first ends sooner.
+fn crowd(t: &mut Tape, planner: u8) {
+    t.board(256, 4);
+    for id in 1..=64 {
+        t.submit(planner, id, 4, 1, if id == 1 { 50 } else { 100 }, 500);
+    }
+}
+
+/// Case 11: 64 live; the next gives 9 even where no place exists; after one ends its slot is taken.
+fn case_11(t: &mut Tape) {
+    for planner in 0..4 {
+        crowd(t, planner);
+        t.submit(planner, 65, 4, 1, 10, 500);
+        t.submit(planner, 66, 4, 1, 10, 20);
+        t.clock(49);
+        t.submit(planner, 67, 4, 1, 10, 500);
+        t.clock(50);
+        t.submit(planner, 68, 5, 1, 10, 60);
+        t.submit(planner, 69, 4, 1, 10, 60);
+        t.submit(planner, 70, 4, 1, 10, 500);
+    }
+}
+
+/// Case 12: the clock to now changes nothing, to now - 1 gives 11; the last instant, and one past it.
+fn case_12(t: &mut Tape) {
+    for now in [0, 1, 7, LAST - 1, LAST] {
+        t.board(4, 4);
+        t.submit(3, 1, 2, 1, 5, LAST);
+        t.clock(now);
+        t.clock(now);
+        t.clock(now.wrapping_sub(1));
+        t.clock(LAST);
+        t.clock(LAST + 1);
+        t.clock(u32::MAX);
+        t.submit(3, 2, 1, 1, 1, LAST);
+    }
+}
+
+/// Withdrawal: not live, running, waiting, gone, no id at all.
+fn withdrawals(t: &mut Tape) {
+    t.board(4, 4);
+    t.submit(2, 1, 4, 1, 5, 100);
+    t.submit(2, 2, 4, 1, 5, 100);
+    for id in [0, 3, u32::MAX, 1, 2, 2] {
+        t.withdraw(id);
+    }
+    t.submit(2, 2, 4, 1, 5, 100);
+    t.clock(4);
+    t.withdraw(2);
+    t.submit(2, 2, 4, 1, 5, 100);
+    t.clock(5);
+    t.withdraw(1);
+    t.withdraw(2);
+}
+
+/// Every set of the refusals 3 to 8 at once, on the board as it stands: the lowest has to win, over 9 and 10 too.
+fn sets(t: &mut Tape) {
+    for set in 0..64u32 {
+        let has = |bit: u32| set >> bit & 1 == 1;
+        if has(1) && has(4) {
+            continue; // no live task has the id 0
+        }
+        let planner = if has(0) { 4 } else { (set % 4) as u8 };
+        let id = if has(1) { 0 } else if has(4) { 2 } else { 1000 + set };
+        let w = if has(2) { 0 } else { 255 };
+        let e = if has(3) { 1_000_001 } else { 100 };
+        let d = if has(5) { 10 } else { 90 };
+        t.submit(planner, id, w, 1, e, if has(3) && !has(5) { 1_500_000 } else if has(5) { d } else { 130 });
+    }
+}
+
+fn main() {
+    let mut t = Tape(Vec::new());
+    // on the board of zeros, which `plan` begins with
+    t.clock(0);
+    t.clock(LAST + 1);
+    t.withdraw(0);
+    t.withdraw(1);
+    sets(&mut t);
+    devices(&mut t);
+    fields(&mut t);
+    case_10(&mut t);
+    case_11(&mut t);
+    case_12(&mut t);
+    withdrawals(&mut t);
+    // one live task, over 255 columns, at now 20
+    t.board(256, 4);
+    t.submit(3, 2, 255, 1, 200, 500);
+    t.clock(20);
+    sets(&mut t);
+    // 64 live tasks
+    crowd(&mut t, 2);
+    t.clock(20);
+    sets(&mut t);
+    std::io::stdout().write_all(&t.0).expect("a recording can be written");
+}
