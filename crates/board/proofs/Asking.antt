@@ -21,6 +21,7 @@ use Rattle.planners.specs.Openings.{Place, ways, openings, pairWords, full}
 use Rattle.planners.specs.Planners.{planned}
 use Rattle.planners.proofs.Openings.{Opening, Before, after-listed, listed-after, after-ordered, after-last, after-none}
 use Rattle.slots.proofs.Soundness.{sound-in}
+use Rattle.openings.proofs.Writing.{words-length}
 use Rattle.board.specs.declared.Board.{Board}
 use Rattle.board.specs.declared.Opened.{Opened}
 use Rattle.board.specs.Refusals.{refusal, liveOf, soundBoard, refusedOpenings, refusedSubmit}
@@ -39,11 +40,6 @@ read-back : (ps : List Place) (ws : List ℕ) → pairsFrom (length ps) (pairWor
 unfolding pairsFrom pairWords
 read-back [] ws = refl
 read-back (p ∷ ps) ws = ap (λ qs. pair (p .start) (p .place) ∷ qs) (read-back ps ws)
-
-words-length : (ps : List Place) → length (pairWords ps) ≡ 2 * length ps
-unfolding pairWords
-words-length [] = refl
-words-length (p ∷ ps) = let h = words-length ps in omega arith
 
 -- a request on a sound board for a well-formed task whose deadline can still be reached is not refused
 pub not-refused : (b : Board) (a : Submission) → SoundBoard b → Reachable b a → refusedOpenings b a ≡ 0

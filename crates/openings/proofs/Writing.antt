@@ -22,7 +22,7 @@ unfolding pairWords
 words-append [] qs = refl
 words-append (p ∷ ps) qs = ap (λ l. p .start ∷ p .place ∷ l) (words-append ps qs)
 
-words-length : (ps : List Place) → length (pairWords ps) ≡ 2 * length ps
+pub words-length : (ps : List Place) → length (pairWords ps) ≡ 2 * length ps
 unfolding pairWords
 words-length [] = refl
 words-length (p ∷ ps) = let h = words-length ps in omega arith

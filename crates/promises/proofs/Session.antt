@@ -26,10 +26,10 @@ use Rattle.slots.proofs.Ageing.{live-aged, stamped-live, stamped-phase}
 use Rattle.board.specs.declared.Board.{Board}
 use Rattle.board.specs.declared.Answer.{Answer}
 use Rattle.board.specs.declared.Answer.the-variants.{Rejected, Placed, Refused}
-use Rattle.board.specs.Refusals.{_when_, refusal, liveOf, soundBoard, refusedCreate, refusedInstant, refusedWithdraw}
+use Rattle.board.specs.Refusals.{_when_, refusal, liveOf, soundBoard, refusedInstant, refusedWithdraw}
 use Rattle.board.specs.Calls.{orRefused, withTasks, zeroBoard, created, submitted, boardAt, clocked, withdrawn}
 use Rattle.board.specs.Untested.{submittedBooked}
-use Rattle.board.proofs.Refusals.{refused-by, none-holds}
+use Rattle.board.proofs.Refusals.{none-holds}
 use Rattle.board.proofs.Kept.{SoundBoard, submitted-sound, clocked-stays-sound, withdrawn-stays-sound, created-sound, zero-unsound, Passable, instant-passable, clocked-done, refused-clock-same, refused-withdraw-same}
 use Rattle.board.proofs.Submit.{submit-unsound}
 use Rattle.board.proofs.Untested.{clocked-unsound, withdrawn-unsound}
@@ -37,6 +37,7 @@ use Rattle.board.proofs.Placed.{placed-opens, BooksAt, placed-books, unplaced-s
 use Rattle.events.specs.declared.Event.{Event}
 use Rattle.events.specs.declared.Event.the-variants.{NewBoard, Submit, Clock, Withdraw}
 use Rattle.session.specs.Recording.{outcome}
+use Rattle.session.proofs.Steps.{created-not}
 use Rattle.promises.specs.Ledger.{entered, struck, ledgerAfter, Account, accountAfter}
 
 -- an element that does not pass stays where one that passes is replaced, and the new one is there
@@ -83,10 +84,6 @@ pub record Honest (b : Board) (ks : List Task) : Type 0 where
   pub due : (k : Task) → k ∈ ks → finish k ≤ k .d
   -- "stands on its promised columns from its promised start to its finish": until then it is a live task of the board, as it was promised
   pub stands : (k : Task) → k ∈ ks → (finish k ≤ b .now) ⊎ (stamped (b .now) k ∈ liveOf b)
-
-created-not : (W H : ℕ) → deviceFits W H ≡ false → created W H ≡ record { number = 2; board = zeroBoard }
-unfolding created refusedCreate orRefused
-created-not W H e = rw (refused-by 2 (not (deviceFits W H)) [] (ap not e))
 
 -- a promise after the clock has moved
 after-clock : (b : Board) (i : ℕ) (k : Task) → (finish k ≤ b .now) ⊎ (stamped (b .now) k ∈ liveOf b) → b .now ≤ i → Dec (finish k ≤ i) → (finish k ≤ boardAt b i .now) ⊎ (stamped (boardAt b i .now) k ∈ liveOf (boardAt b i))

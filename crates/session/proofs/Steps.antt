@@ -58,11 +58,11 @@ unfolding told
 told-refused n = refl
 
 -- a new board, and the board of zeros
-created-done : (W H : ℕ) → deviceFits W H ≡ true → created W H ≡ record { number = 0; board = freshBoard W H }
+pub created-done : (W H : ℕ) → deviceFits W H ≡ true → created W H ≡ record { number = 0; board = freshBoard W H }
 unfolding created refusedCreate orRefused
 created-done W H e = rw (passed-over 2 (not (deviceFits W H)) [] (ap not e)) (unfold refusal in refl)
 
-created-not : (W H : ℕ) → deviceFits W H ≡ false → created W H ≡ record { number = 2; board = zeroBoard }
+pub created-not : (W H : ℕ) → deviceFits W H ≡ false → created W H ≡ record { number = 2; board = zeroBoard }
 unfolding created refusedCreate orRefused
 created-not W H e = rw (refused-by 2 (not (deviceFits W H)) [] (ap not e))
 
