@@ -3,17 +3,14 @@ ghost use mathlib.Core.Path.{_≡_};
 ghost use mathlib.Core.Bool.{false};
 ghost use mathlib.Core.List.{[], _∷_};
 ghost use Prim.Native.Nat.{_+_, _-_, _*_, _≤_, _<_};
-ghost use lib.ListN.{length, take, drop};
+ghost use lib.ListN.{length};
 ghost use lib.Seq.{sets};
-ghost use Rattle.lists.specs.Lists.{overFront};
-ghost use Rattle.events.specs.Records.{kindOf, toldRead};
 ghost use Rattle.plan.specs.Streams.{Stands};
 use board::Board;
-use events::Event;
-use events::Reading;
 use libc::STDIN_FILENO;
 use libc::STDOUT_FILENO;
 use session::Ran;
+use streams::Told;
 
 // Where the program stands: the bytes from `from` to `to` wait, and so do some lines; the events so far; whether to go on.
 struct State {
@@ -22,57 +19,6 @@ struct State {
     lines: usize,
     number: u32,
     more: bool,
-}
-
-// What a reading is in 01's numbers.
-struct Told {
-    number: u8,
-    kind: u8,
-    taken: usize,
-}
-
-fn kind_of(event: Event) -> u8
-    ensures { λ r. ⌜ r ≡ kindOf event ⌝ }
-{
-    match event {
-        Event::NewBoard {
-            columns: _,
-            rows: _,
-        } => 1,
-        Event::Submit {
-            planner: _,
-            task: _,
-        } => 2,
-        Event::Clock { instant: _ } => 3,
-        Event::Withdraw { id: _ } => 4,
-    }
-}
-
-fn numbers_of(reading: Reading) -> Told
-    ensures { λ r. ⌜ (r .number ≡ toldRead reading .number) × (r .kind ≡ toldRead reading .kind) × (r .taken ≡ toldRead reading .taken) ⌝ }
-{
-    match reading {
-        Reading::End => Told {
-            number: 0,
-            kind: 0,
-            taken: 0,
-        },
-        Reading::Got(event, size) => Told {
-            number: 0,
-            kind: kind_of(event),
-            taken: size,
-        },
-        Reading::CutShort(kind) => Told {
-            number: 15,
-            kind: kind,
-            taken: 0,
-        },
-        Reading::Unknown(kind) => Told {
-            number: 16,
-            kind: kind,
-            taken: 0,
-        },
-    }
 }
 
 // "After 15 or 16 it prints that line (kind as the byte read, zeros)": its six words.
@@ -86,21 +32,6 @@ fn put_last(words: &mut [u32], at: usize, number: u32, kind: u32, answer: u32)
     words[at + 3] = 0;
     words[at + 4] = 0;
     words[at + 5] = 0;
-}
-
-// A record may lie across two pieces of the input: what is left of a piece moves to the front of the buffer.
-fn carry(bytes: &mut [u8], from: usize, to: usize) -> usize
-    requires { ⌜ (from ≤ to) × (to ≤ length (now bytes)) ⌝ }
-    ensures { λ r. ⌜ r ≡ to - from ⌝ }
-    ensures { λ _. ⌜ now (bytes .exit) ≡ overFront (take (to - from) (drop from (now (bytes .entry)))) (now (bytes .entry)) ⌝ }
-{
-    let n = to - from;
-    let mut i = 0;
-    while i < n {
-        bytes[i] = bytes[from + i];
-        i += 1;
-    }
-    n
 }
 
 // Writes the lines that wait; where that fails, says so on standard error.
@@ -145,12 +76,6 @@ fn ended(text: &mut [u8], words: &[u32], s: State) -> State
     }
 }
 
-fn wide(x: u8) -> u32
-    ensures { λ r. ⌜ r ≡ x ⌝ }
-{
-    x as u32
-}
-
 // "After 15 or 16 it prints that line and stops"; at the end of the input there is none.
 fn stopped(text: &mut [u8], words: &mut [u32], s: State, last: Told) -> State
     requires { ⌜ (65472 ≤ length (now text)) × (5952 ≤ length (now words)) × (s .lines < 992) × (s .number < 1000000000) ⌝ }
@@ -163,8 +88,8 @@ fn stopped(text: &mut [u8], words: &mut [u32], s: State, last: Told) -> State
         words,
         s.lines * 6,
         s.number + 1,
-        wide(last.kind),
-        wide(last.number),
+        streams::wide(last.kind),
+        streams::wide(last.number),
     );
     let more = State {
         from: s.from,
@@ -183,7 +108,7 @@ fn read_on(bytes: &mut [u8], text: &mut [u8], words: &mut [u32], s: State, last:
     requires { ⌜ Stands (length (now bytes)) s × (s .to - s .from < length (now bytes)) ⌝ }
     ensures { λ r. ⌜ Stands (length (now (bytes .entry))) r ⌝ }
 {
-    let left = carry(bytes, s.from, s.to);
+    let left = streams::carry(bytes, s.from, s.to);
     let got = libc::read(STDIN_FILENO, &mut bytes[left..]);
     if got < 0 {
         os::fail(b"plan: cannot read");
@@ -216,7 +141,7 @@ fn step(bytes: &mut [u8], text: &mut [u8], words: &mut [u32], s: State) -> State
     }
     let to = s.to;
     let reading = events::read_at(&bytes[0..to], s.from);
-    let last = numbers_of(reading);
+    let last = streams::numbers_of(reading);
     if 0 < last.taken {
         return s;
     }
@@ -251,14 +176,6 @@ fn advanced(s: State, count: usize, taken: usize) -> State
     }
 }
 
-// A loop has to end, and nothing says that the input does: the turns that are left, 0 where there is no more.
-fn turns_left(more: bool, turns: u64) -> u64
-    requires { ⌜ 0 < turns ⌝ }
-    ensures { λ r. ⌜ r < turns ⌝ }
-{
-    if more { turns - 1 } else { 0 }
-}
-
 // The header; where it cannot be written, there is nothing to go on with.
 fn headed() -> bool {
     let done = io::write_all(STDOUT_FILENO, b"event kind answer column start finish\n");
@@ -288,7 +205,7 @@ fn main() {
         number: 0,
         more: true,
     };
-    let mut turns = turns_left(headed(), u64::MAX);
+    let mut turns = streams::turns_left(headed(), u64::MAX);
     while 0 < turns {
         let r = run_on(board, &bytes, &mut words, s);
         let after = r.board;
@@ -299,6 +216,6 @@ fn main() {
             &mut words,
             advanced(s, r.count, r.taken),
         );
-        turns = turns_left(s.more, turns);
+        turns = streams::turns_left(s.more, turns);
     }
 }

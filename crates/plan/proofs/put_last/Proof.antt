@@ -1,7 +1,7 @@
 -- `plan::put_last` meets its contract: six stores one behind the other. Assumes nothing.
 use native.Mathlib.Omega.{arith}
 use lib.ListN.{length-set}
-use Rattle.plan.proofs.Moving.{six-stored}
+use Rattle.plan.proofs.Storing.{six-stored}
 use borrow.Author.Needs.{needs}
 use Rattle.plan.proofs.put_last.Statement.{statement}
 use Rattle.plan.proofs.put_last.Tie as tie

@@ -1,7 +1,7 @@
 -- `plan::step` meets its contract: each way leaves the program standing where it may go on. Assumes nothing.
 use native.Mathlib.Omega.{arith}
 use lib.ListN.{length-take, length-drop}
-use Rattle.plan.proofs.Left.{left-told}
+use Rattle.streams.proofs.Left.{left-told}
 use borrow.Author.Needs.{needs}
 use Rattle.plan.proofs.step.Statement.{statement}
 use Rattle.plan.proofs.step.Tie as tie

@@ -1,21 +1,13 @@
--- Words stored one behind the other, and bytes that move to the front of their buffer. Assumes nothing.
-use Prim.Native.Nat.{ℕ, suc, _+_, _-_, _≤_, _<_}
-use mathlib.Core.Path.{_≡_, refl, sym, ap, _∙_}
-use mathlib.Core.List.{List, [], _∷_, _++_}
+-- Bytes that move to the front of their buffer. Assumes nothing.
+use Prim.Native.Nat.{ℕ, _+_, _-_, _≤_, _<_}
+use mathlib.Core.Path.{_≡_, sym, ap, _∙_}
+use mathlib.Core.List.{List, _++_}
 use native.Mathlib.Omega.{arith}
 use native.Mathlib.Numerals.{add-one}
 use native.Mathlib.Nat.{zero-add}
 use lib.ListN.{length, take, drop, set, getD, length-drop}
-use lib.Seq.{sets, paste, paste-zero, paste-suc, drop-paste, getD-drop, length-take-le}
+use lib.Seq.{paste, paste-zero, paste-suc, drop-paste, getD-drop, length-take-le}
 use Rattle.lists.specs.Lists.{overFront}
-
-pub six-stored : (l : List ℕ) (at a b c : ℕ) → set (set (set (set (set (set l at a) (at + 1) b) (at + 2) c) (at + 3) 0) (at + 4) 0) (at + 5) 0 ≡ sets l at (a ∷ b ∷ c ∷ 0 ∷ 0 ∷ 0 ∷ [])
-six-stored l at a b c =
-    let two : at + 2 ≡ suc (suc at) = omega arith in
-    let three : at + 3 ≡ suc (suc (suc at)) = omega arith in
-    let four : at + 4 ≡ suc (suc (suc (suc at))) = omega arith in
-    let five : at + 5 ≡ suc (suc (suc (suc (suc at)))) = omega arith in
-    rw (add-one at, two, three, four, five)
 
 -- i bytes from `from` on stand at the front of the buffer
 pub Moved : List ℕ → ℕ → ℕ → List ℕ → Type 0

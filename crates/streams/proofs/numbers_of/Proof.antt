@@ -1,9 +1,9 @@
--- `plan::numbers_of` meets its contract. Assumes nothing.
+-- `streams::numbers_of` meets its contract. Assumes nothing.
 use mathlib.Core.Path.{sym, ap, _∙_}
 use Rattle.events.specs.Records.{toldRead}
 use borrow.Author.Needs.{needs}
-use Rattle.plan.proofs.numbers_of.Statement.{statement}
-use Rattle.plan.proofs.numbers_of.Tie as tie
+use Rattle.streams.proofs.numbers_of.Statement.{statement}
+use Rattle.streams.proofs.numbers_of.Tie as tie
 
 enum-told : tie.Need-enum-told
 enum-told c = search needs

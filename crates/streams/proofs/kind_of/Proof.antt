@@ -1,9 +1,9 @@
--- `plan::kind_of` meets its contract. Assumes nothing.
+-- `streams::kind_of` meets its contract. Assumes nothing.
 use mathlib.Core.Path.{sym, ap}
 use Rattle.events.specs.Records.{kindOf}
 use borrow.Author.Needs.{needs}
-use Rattle.plan.proofs.kind_of.Statement.{statement}
-use Rattle.plan.proofs.kind_of.Tie as tie
+use Rattle.streams.proofs.kind_of.Statement.{statement}
+use Rattle.streams.proofs.kind_of.Tie as tie
 
 enum-told : tie.Need-enum-told
 enum-told c = search needs

@@ -1,12 +1,12 @@
--- `plan::carry` meets its contract: one byte more each turn. Assumes nothing.
+-- `streams::carry` meets its contract: one byte more each turn. Assumes nothing.
 use Prim.Native.Nat.{_-_, _≤_}
 use mathlib.Core.Path.{_≡_, refl}
 use native.Mathlib.Omega.{arith}
 use lib.ListN.{length, length-set}
-use Rattle.plan.proofs.Moving.{Moved, moved-none, moved-one, moved-all}
+use Rattle.streams.proofs.Moving.{Moved, moved-none, moved-one, moved-all}
 use borrow.Author.Needs.{needs}
-use Rattle.plan.proofs.carry.Statement.{statement}
-use Rattle.plan.proofs.carry.Tie as tie
+use Rattle.streams.proofs.carry.Statement.{statement}
+use Rattle.streams.proofs.carry.Tie as tie
 
 abbrev Inv-loop : tie.InvT-loop
 Inv-loop bytes₀ from to n i₀ bytes i = (i ≤ n) × (length bytes ≡ length bytes₀) × Moved bytes₀ from i bytes
