@@ -10,9 +10,10 @@ use lib.Seq.{length-take-le, drop-cons, drop-drop, getD-drop}
 use Rattle.lists.proofs.Append.{stored}
 use Rattle.text.specs.Text.{value}
 use Rattle.wording.proofs.Judged.{fits-most}
+use Rattle.wording.proofs.Walking.{no-word}
 use Rattle.wording.specs.declared.Word.{Word}
 use Rattle.wording.specs.declared.Numbers.{Numbers}
-use Rattle.wording.specs.Wording.{ended, wordsOn, words, empty, fits, wrong, nth, part, Next, Counted}
+use Rattle.wording.specs.Wording.{ended, words, empty, fits, wrong, nth, part, Next, Counted}
 
 -- the numbers of the first i words stand in the array, and the words from a place on decide the rest
 pub record Sofar (l : List ℕ) (at : ℕ) (mosts values : List ℕ) (from i : ℕ) : Type 0 where
@@ -75,22 +76,19 @@ module _ {l : List ℕ} {at : ℕ} {mosts values : List ℕ} {from i : ℕ} {w :
         small = λ n b. stored (λ x. x ≤ getD mosts n 0) values i v n 0 room (λ same. rw same small) (λ other. so .small n b);
       }
 
-  nothing : w .from ≡ w .to → words (drop from l) ≡ []
-  unfolding words wordsOn ended
-  nothing e = nx .first ∙ ap (λ t. ended (part (w .from) (w .to) l) (words t)) (nx .last e) ∙ ap (λ f. ended (part f (w .to) l) []) e ∙ rw (let z : w .to - w .to ≡ 0 = omega arith in z)
-
   -- A WORD THAT IS NO SUCH NUMBER, or none at all
   pub stops-here : {r : Numbers} → i < length mosts → fits (getD mosts i 0) (part (w .from) (w .to) l) ≡ false → r .wrong ≡ i + 1 → r .values ≡ values → Counted (words (drop at l)) mosts r
   unfolding wrong ended
   stops-here {r} h f a b =
       record {
         told = a ∙ sym (so .judged ∙ ap (λ t. wrong (i + 1) t (words (drop from l))) (drop-cons mosts i 0 h) ∙ go (part (w .from) (w .to) l) refl);
+        few = omega (arith, so .place);
         read = λ z. absurd (omega arith);
         small = rw b (so .small);
       }
     where
       go : (s : List ℕ) → part (w .from) (w .to) l ≡ s → wrong (i + 1) (getD mosts i 0 ∷ drop (suc i) mosts) (words (drop from l)) ≡ i + 1
-      go [] q = ap (wrong (i + 1) (getD mosts i 0 ∷ drop (suc i) mosts)) (nothing (let z : w .to - w .from ≡ 0 = sym (size-of l (w .from) (w .to) (nx .within)) ∙ ap length q in omega (arith, nx .ordered)))
+      go [] q = ap (wrong (i + 1) (getD mosts i 0 ∷ drop (suc i) mosts)) (no-word nx (let z : w .to - w .from ≡ 0 = sym (size-of l (w .from) (w .to) (nx .within)) ∙ ap length q in omega (arith, nx .ordered)))
       go (b ∷ bs) q = ap (wrong (i + 1) (getD mosts i 0 ∷ drop (suc i) mosts)) (nx .first ∙ ap (λ t. ended t (words (drop (w .to) l))) q) ∙ rw (← q, f)
 
   -- ALL OF THEM, and no word more
@@ -98,7 +96,8 @@ module _ {l : List ℕ} {at : ℕ} {mosts values : List ℕ} {from i : ℕ} {w :
   unfolding wrong
   all-read {r} h e a b =
       record {
-        told = a ∙ sym (so .judged ∙ rw (drop-of-length-le mosts h, nothing e));
+        told = a ∙ sym (so .judged ∙ rw (drop-of-length-le mosts h, no-word nx e));
+        few = omega arith;
         read = λ z k c. rw b (so .read k (omega (arith, so .place)));
         small = rw b (so .small);
       }
@@ -109,6 +108,7 @@ module _ {l : List ℕ} {at : ℕ} {mosts values : List ℕ} {from i : ℕ} {w :
   too-many {r} h e a b =
       record {
         told = a ∙ sym (so .judged ∙ rw (drop-of-length-le mosts h) (go (part (w .from) (w .to) l) refl));
+        few = omega (arith, so .place);
         read = λ z. absurd (omega arith);
         small = rw b (so .small);
       }

@@ -3,12 +3,13 @@ use Prim.Native.Nat.{ℕ, suc, _+_, _≤_, _<_}
 use mathlib.Core.Path.{_≡_, refl, ap, _∙_}
 use mathlib.Core.Bool.{Bool, true, false, _&&_}
 use mathlib.Core.List.{List, [], _∷_}
+use native.Mathlib.Omega.{arith}
 use native.Mathlib.Numerals.{add-one}
 use borrow.Author.Tests.{eq-eqb, ne-eqb}
 use lib.Dec.{eqb}
 use lib.ListN.{length, drop, getD, drop-of-length-le}
 use lib.Seq.{drop-cons}
-use Rattle.wording.specs.Wording.{same}
+use Rattle.wording.specs.Wording.{same, empty}
 
 pub same-lengths : (xs ys : List ℕ) → (length xs ≡ length ys → ⊥) → same xs ys ≡ false
 unfolding same
@@ -37,3 +38,9 @@ same-not l m i h k e = first l m i h k ∙ ap (λ t. t && same (drop (i + 1) l) 
 pub same-end : (l m : List ℕ) (i : ℕ) → length l ≤ i → length m ≤ i → same (drop i l) (drop i m) ≡ true
 unfolding same
 same-end l m i h k = rw (drop-of-length-le l h, drop-of-length-le m k)
+
+-- a word of length 0
+pub empty-length : (w : List ℕ) → eqb (length w) 0 ≡ empty w
+unfolding empty
+empty-length [] = refl
+empty-length (b ∷ bs) = ne-eqb (suc (length bs)) 0 (λ e. omega arith)

@@ -6,11 +6,11 @@ use mathlib.Core.List.{List, [], _∷_, _++_, append-nil, append-assoc}
 use native.Mathlib.Omega.{arith}
 use native.Mathlib.Numerals.{add-one}
 use lib.ListN.{length, take, drop, length-drop}
-use lib.Seq.{take-all, drop-drop}
+use lib.Seq.{length-take-le, take-all, drop-drop}
 use Rattle.lists.specs.Lists.{indexOf}
 use Rattle.wording.specs.declared.Sort.the-variants.{Blank, Solid}
 use Rattle.wording.specs.declared.Word.{Word}
-use Rattle.wording.specs.Wording.{blank, stopsAt, ended, wordsOn, words, part, Next}
+use Rattle.wording.specs.Wording.{blank, stopsAt, ended, wordsOn, words, firstWord, otherWords, part, Next}
 
 -- blanks before a word
 skipped : (xs : List ℕ) → words xs ≡ words (drop (indexOf (stopsAt Solid) xs) xs)
@@ -70,3 +70,24 @@ next-word l at a b r h k d e f g =
           let z : at + a + b ≡ at + a = omega arith in
           rw (g, z) (sym left ∙ none-left (drop at l) (ap (indexOf (stopsAt Blank)) left ∙ sym e ∙ zero-left));
     }
+
+module _ {l : List ℕ} {at : ℕ} {w : Word} (nx : Next l at w) where
+  -- a part with no byte is no word, and then there is none
+  pub no-word : w .from ≡ w .to → words (drop at l) ≡ []
+  unfolding words wordsOn ended
+  no-word e =
+      nx .first ∙ ap (λ t. ended (part (w .from) (w .to) l) (words t)) (nx .last e) ∙ ap (λ f. ended (part f (w .to) l) []) e ∙ rw (let z : w .to - w .to ≡ 0 = omega arith in z)
+
+  same-places : part (w .from) (w .to) l ≡ [] → w .from ≡ w .to
+  same-places q =
+      let z : w .to - w .from ≡ 0 = sym (length-take-le (w .to - w .from) (drop (w .from) l) (omega (arith, length-drop (w .from) l, nx .within))) ∙ ap length q in
+      omega (arith, nx .ordered)
+
+  -- THE FIRST WORD is the part, or none
+  pub a-word : {A : Type 0} (f : List ℕ → List (List ℕ) → A) → f (firstWord (words (drop at l))) (otherWords (words (drop at l))) ≡ f (part (w .from) (w .to) l) (words (drop (w .to) l))
+  unfolding firstWord otherWords words wordsOn ended
+  a-word f = go (part (w .from) (w .to) l) refl
+    where
+      go : (s : List ℕ) → part (w .from) (w .to) l ≡ s → f (firstWord (words (drop at l))) (otherWords (words (drop at l))) ≡ f s (words (drop (w .to) l))
+      go [] q = ap (λ ws. f (firstWord ws) (otherWords ws)) (no-word (same-places q)) ∙ ap (λ t. f [] (words t)) (sym (nx .last (same-places q)))
+      go (b ∷ bs) q = ap (λ ws. f (firstWord ws) (otherWords ws)) (nx .first ∙ ap (λ t. ended t (words (drop (w .to) l))) q)

@@ -37,6 +37,15 @@ wordsOn begun (b ∷ bs) = cond (blank b) (ended begun (wordsOn [] bs)) (wordsOn
 unfoldable pub words : List ℕ → List (List ℕ)
 words text = wordsOn [] text
 
+-- the first word, and those behind it; no bytes and no words where there is none
+unfoldable pub firstWord : List (List ℕ) → List ℕ
+firstWord [] = []
+firstWord (w ∷ ws) = w
+
+unfoldable pub otherWords : List (List ℕ) → List (List ℕ)
+otherWords [] = []
+otherWords (w ∷ ws) = ws
+
 -- the same bytes
 unfoldable pub same : List ℕ → List ℕ → Bool
 same [] [] = true
@@ -82,5 +91,6 @@ pub record Next (text : List ℕ) (at : ℕ) (r : Word) : Type 0 where
 -- code level: the numbers of some words, one for each limit, and none above its limit
 pub record Counted (ws : List (List ℕ)) (mosts : List ℕ) (r : Numbers) : Type 0 where
   pub told : r .wrong ≡ wrong 1 mosts ws
+  pub few : r .wrong ≤ length mosts + 1
   pub read : r .wrong ≡ 0 → (i : ℕ) → i < length mosts → getD (r .values) i 0 ≡ nth i ws
   pub small : (i : ℕ) → i < length mosts → getD (r .values) i 0 ≤ getD mosts i 0

@@ -5,7 +5,7 @@ ghost use Prim.Native.Nat.{_+_, _-_, _*_, _≤_};
 ghost use lib.ListN.{length, drop};
 ghost use Rattle.lists.specs.Lists.{indexOf};
 ghost use Rattle.text.specs.Text.{value};
-ghost use Rattle.wording.specs.Wording.{blank, stopsAt, words, same, digit, fits, Next, Counted};
+ghost use Rattle.wording.specs.Wording.{blank, stopsAt, words, same, digit, empty, fits, Next, Counted};
 
 // What a search stops at.
 pub enum Sort {
@@ -73,6 +73,12 @@ pub fn next(text: &[u8], at: usize) -> Word
     let from = at + find(&text[at..], Sort::Solid);
     let to = from + find(&text[from..], Sort::Blank);
     Word { from, to }
+}
+
+pub fn is_empty(word: &[u8]) -> bool
+    ensures { λ r. ⌜ r ≡ empty (now (word .entry)) ⌝ }
+{
+    word.len() == 0
 }
 
 pub fn is_name(word: &[u8], name: &[u8]) -> bool
