@@ -1,13 +1,14 @@
--- Rows of six words: the words of a row, and the text of one row more. Assumes nothing.
+-- Rows of words: the words of a row, and the text of one row more. Assumes nothing.
 use Prim.Native.Nat.{ℕ, zero, suc, _+_, _*_, _≤_, _<_}
 use mathlib.Core.Path.{_≡_, refl, sym, ap, _∙_}
 use mathlib.Core.List.{List, [], _∷_, _++_, append-nil, append-assoc}
-use native.Mathlib.Nat.{zero-add}
+use native.Mathlib.Nat.{zero-add, zero-mul, suc-mul, mul-le-mul-right}
+use native.Mathlib.Numerals.{add-one}
 use native.Mathlib.Omega.{arith}
-use lib.ListN.{length, take, drop, getD}
-use lib.Seq.{sets, sets-eq, drop-cons, drop-drop}
+use lib.ListN.{length, take, drop, getD, length-drop}
+use lib.Seq.{sets-eq, take-suc, drop-cons, drop-drop, getD-drop}
 use Rattle.lists.specs.Lists.{each, overFront}
-use Rattle.text.specs.Text.{rowText, rowsText, rowsOf}
+use Rattle.text.specs.Text.{decimal, lineText, rowText, rowsText, rowsOf}
 use Rattle.text.specs.Digits.{Put}
 use Rattle.text.proofs.Spelling.{put-both}
 
@@ -25,25 +26,72 @@ six-words l i h =
     ∙ rw (word l 5 i 0 (omega arith), word l 4 i 1 (omega arith), word l 3 i 2 (omega arith), word l 2 i 3 (omega arith), word l 1 i 4 (omega arith), word l 0 i 5 (omega arith))
     (ap (λ j. getD l j 0 ∷ getD l (i + 1) 0 ∷ getD l (i + 2) 0 ∷ getD l (i + 3) 0 ∷ getD l (i + 4) 0 ∷ getD l (i + 5) 0 ∷ []) z))
 
--- no row yet
-pub rows-none : (l words : List ℕ) → Put l 0 (rowsText (rowsOf 0 words)) l 0
-unfolding rowsText rowsOf each
-rows-none l words = record { stored = refl; place = refl }
+-- numbers, each with a space behind it: the front of a row
+unfoldable pub spaced : List ℕ → List ℕ
+spaced ns = each ns (λ x. decimal x ++ (32 ∷ []))
 
-text-more : (i : ℕ) (words : List ℕ) → rowsText (rowsOf (suc i) words) ≡ rowsText (rowsOf i words) ++ rowText (take 6 (drop (i * 6) words))
+spaced-more : (xs : List ℕ) (x : ℕ) → spaced (xs ++ (x ∷ [])) ≡ spaced xs ++ (decimal x ++ (32 ∷ []))
+unfolding spaced each
+spaced-more [] x = append-nil (decimal x ++ (32 ∷ []))
+spaced-more (y ∷ ys) x = ap (λ t. (decimal y ++ (32 ∷ [])) ++ t) (spaced-more ys x) ∙ sym (append-assoc (decimal y ++ (32 ∷ [])) (spaced ys) (decimal x ++ (32 ∷ [])))
+
+-- a number in front of one or more others
+row-before : (y : ℕ) (ys : List ℕ) (x : ℕ) → rowText (y ∷ (ys ++ (x ∷ []))) ≡ decimal y ++ (32 ∷ rowText (ys ++ (x ∷ [])))
+unfolding rowText lineText
+row-before y [] x = refl
+row-before y (z ∷ zs) x = refl
+
+-- a row by its last number
+row-last : (xs : List ℕ) (x : ℕ) → rowText (xs ++ (x ∷ [])) ≡ spaced xs ++ (decimal x ++ (10 ∷ []))
+unfolding spaced each
+row-last [] x = unfold rowText lineText in refl
+row-last (y ∷ ys) x =
+    row-before y ys x ∙ ap (λ t. decimal y ++ (32 ∷ t)) (row-last ys x)
+    ∙ sym (ap (λ t. t ++ (decimal x ++ (10 ∷ []))) (append-assoc (decimal y) (32 ∷ []) (spaced ys)) ∙ append-assoc (decimal y) (32 ∷ spaced ys) (decimal x ++ (10 ∷ [])))
+
+-- the word at a place behind those of a part
+part-more : (words : List ℕ) (from i : ℕ) → from + i < length words → take (suc i) (drop from words) ≡ take i (drop from words) ++ (getD words (from + i) 0 ∷ [])
+part-more words from i h =
+    take-suc (drop from words) i 0 (omega (arith, length-drop from words)) ∙ ap (λ x. take i (drop from words) ++ (x ∷ [])) (getD-drop from words i 0)
+
+-- A ROW OF n WORDS: no word yet, one more, the last
+pub words-none : (l words : List ℕ) (at from : ℕ) → Put l at (spaced (take 0 (drop from words))) l at
+unfolding spaced each
+words-none l words at from = record { stored = refl; place = (let z : at ≡ at + 0 = omega arith in z) }
+
+pub words-more : {l m n : List ℕ} {at p q : ℕ} (words : List ℕ) (from i : ℕ) → from + i < length words → Put l at (spaced (take i (drop from words))) m p → Put m p (decimal (getD words (from + i) 0) ++ (32 ∷ [])) n q
+    → Put l at (spaced (take (i + 1) (drop from words))) n q
+words-more words from i h a b = rw (add-one i, part-more words from i h, spaced-more) (put-both a b)
+
+pub words-last : {l m n : List ℕ} {at p q : ℕ} (words : List ℕ) (from i : ℕ) → from + i < length words → Put l at (spaced (take i (drop from words))) m p → Put m p (decimal (getD words (from + i) 0) ++ (10 ∷ [])) n q
+    → Put l at (rowText (take (i + 1) (drop from words))) n q
+words-last words from i h a b = rw (add-one i, part-more words from i h, row-last) (put-both a b)
+
+-- no row yet
+pub rows-none : (n : ℕ) (l words : List ℕ) → Put l 0 (rowsText (rowsOf n 0 words)) l 0
 unfolding rowsText rowsOf each
-text-more zero words = append-nil (rowText (take 6 words))
-text-more (suc i) words =
-    let next : 6 + i * 6 ≡ suc i * 6 = omega arith in
-    ap (λ t. rowText (take 6 words) ++ t) (text-more i (drop 6 words) ∙ ap (λ w. rowsText (rowsOf i (drop 6 words)) ++ rowText (take 6 w)) (drop-drop (i * 6) 6 words ∙ ap (λ j. drop j words) next))
-    ∙ sym (append-assoc (rowText (take 6 words)) (rowsText (rowsOf i (drop 6 words))) (rowText (take 6 (drop (suc i * 6) words))))
+rows-none n l words = record { stored = refl; place = refl }
+
+text-more : (n i : ℕ) (words : List ℕ) → rowsText (rowsOf n (suc i) words) ≡ rowsText (rowsOf n i words) ++ rowText (take n (drop (i * n) words))
+unfolding rowsText rowsOf each
+text-more n zero words = rw zero-mul (append-nil (rowText (take n words)))
+text-more n (suc i) words =
+    let next : n + i * n ≡ suc i * n = omega (arith, suc-mul i n) in
+    ap (λ t. rowText (take n words) ++ t) (text-more n i (drop n words) ∙ ap (λ w. rowsText (rowsOf n i (drop n words)) ++ rowText (take n w)) (drop-drop (i * n) n words ∙ ap (λ j. drop j words) next))
+    ∙ sym (append-assoc (rowText (take n words)) (rowsText (rowsOf n i (drop n words))) (rowText (take n (drop (suc i * n) words))))
 
 -- ONE ROW MORE
-pub rows-more : {l m n : List ℕ} {p q : ℕ} (i : ℕ) (words : List ℕ) → Put l 0 (rowsText (rowsOf i words)) m p → Put m p (rowText (take 6 (drop (i * 6) words))) n q
-    → Put l 0 (rowsText (rowsOf (i + 1) words)) n q
-rows-more i words a b =
+pub rows-more : {l m k : List ℕ} {p q : ℕ} (n i : ℕ) (words : List ℕ) → Put l 0 (rowsText (rowsOf n i words)) m p → Put m p (rowText (take n (drop (i * n) words))) k q
+    → Put l 0 (rowsText (rowsOf n (i + 1) words)) k q
+rows-more n i words a b =
     let next : i + 1 ≡ suc i = omega arith in
-    rw (next, text-more i words) (put-both a b)
+    rw (next, text-more n i words) (put-both a b)
+
+-- a turn of so many takes no more than all turns
+pub turn-fits : (i count k : ℕ) → i < count → i * k + k ≤ count * k
+turn-fits i count k h =
+    let next : suc i ≤ count = omega arith in
+    omega (arith, suc-mul i k, mul-le-mul-right k next)
 
 -- rows at the front of a buffer
 pub rows-front : {l m : List ℕ} {p : ℕ} (xs : List ℕ) → Put l 0 xs m p → p ≤ length l → m ≡ overFront xs l

@@ -1,7 +1,7 @@
 -- Numbers as text, in ASCII: a number, a row of numbers, rows. Assumes nothing.
 use Prim.Native.Nat.{ℕ, zero, suc, _+_, _-_, _*_, _/_, _%_}
 use mathlib.Core.Bool.{cond}
-use mathlib.Core.List.{List, [], _∷_, _++_}
+use mathlib.Core.List.{List, [], _∷_, _++_, map}
 use lib.Dec.{ltb}
 use lib.ListN.{take, drop}
 use Rattle.lists.specs.Lists.{each}
@@ -20,17 +20,21 @@ unfoldable pub value : ℕ → List ℕ → ℕ
 value v [] = v
 value v (d ∷ ds) = value (v * 10 + (d - 48)) ds
 
--- "a line each", as 01 prints the listing: the numbers of a row, parted by one space (32) and ended by a newline (10)
+-- the words of a line, parted by one space (32) and ended by a newline (10)
+unfoldable pub lineText : List (List ℕ) → List ℕ
+lineText [] = 10 ∷ []
+lineText (w ∷ []) = w ++ (10 ∷ [])
+lineText (w ∷ v ∷ ws) = w ++ (32 ∷ lineText (v ∷ ws))
+
+-- "a line each", as 01 prints the listing: a row of numbers
 unfoldable pub rowText : List ℕ → List ℕ
-rowText [] = 10 ∷ []
-rowText (x ∷ []) = decimal x ++ (10 ∷ [])
-rowText (x ∷ y ∷ xs) = decimal x ++ (32 ∷ rowText (y ∷ xs))
+rowText ns = lineText (map decimal ns)
 
 -- rows, one behind the other
 unfoldable pub rowsText : List (List ℕ) → List ℕ
 rowsText rows = each rows rowText
 
--- the first n rows of six words
-unfoldable pub rowsOf : ℕ → List ℕ → List (List ℕ)
-rowsOf zero words = []
-rowsOf (suc n) words = take 6 words ∷ rowsOf n (drop 6 words)
+-- the first rows of n words each, so many of them
+unfoldable pub rowsOf : ℕ → ℕ → List ℕ → List (List ℕ)
+rowsOf n zero words = []
+rowsOf n (suc count) words = take n words ∷ rowsOf n count (drop n words)

@@ -1,7 +1,7 @@
-// Numbers as text into a lent buffer, in ASCII: what the lines of the program `plan` are made of.
+// Numbers and bytes as text into a lent buffer, in ASCII: what the lines of the programs are made of.
 ghost use mathlib.Core.Path.{_≡_};
 ghost use mathlib.Core.List.{[], _∷_, _++_};
-ghost use Prim.Native.Nat.{_+_, _*_, _≤_};
+ghost use Prim.Native.Nat.{_+_, _*_, _≤_, _<_};
 ghost use lib.ListN.{length, take, drop};
 ghost use lib.Seq.{sets};
 ghost use Rattle.lists.specs.Lists.{overFront};
@@ -9,8 +9,8 @@ ghost use Rattle.text.specs.Text.{decimal, rowText, rowsText, rowsOf};
 ghost use Rattle.text.specs.Digits.{lastDigits, Put};
 
 // How many digits a number has. By comparisons: a division for each would take longer than all of them.
-fn digits(x: u32) -> usize
-    ensures { λ r. ⌜ (r ≤ 10) × (lastDigits r x ≡ decimal x) ⌝ }
+fn digits(x: u64) -> usize
+    ensures { λ r. ⌜ (r ≤ 20) × (lastDigits r x ≡ decimal x) × (x < 10000000000 → r ≤ 10) ⌝ }
 {
     if x < 10 {
         return 1;
@@ -39,11 +39,41 @@ fn digits(x: u32) -> usize
     if x < 1000000000 {
         return 9;
     }
-    10
+    if x < 10000000000 {
+        return 10;
+    }
+    if x < 100000000000 {
+        return 11;
+    }
+    if x < 1000000000000 {
+        return 12;
+    }
+    if x < 10000000000000 {
+        return 13;
+    }
+    if x < 100000000000000 {
+        return 14;
+    }
+    if x < 1000000000000000 {
+        return 15;
+    }
+    if x < 10000000000000000 {
+        return 16;
+    }
+    if x < 100000000000000000 {
+        return 17;
+    }
+    if x < 1000000000000000000 {
+        return 18;
+    }
+    if x < 10000000000000000000 {
+        return 19;
+    }
+    20
 }
 
 // The last n digits of a number, from the last one backwards: each is what a division by ten leaves.
-fn spell(out: &mut [u8], at: usize, n: usize, x: u32)
+fn spell(out: &mut [u8], at: usize, n: usize, x: u64)
     requires { ⌜ at + n ≤ length (now out) ⌝ }
     ensures { λ _. ⌜ now (out .exit) ≡ sets (now (out .entry)) at (lastDigits n x) ⌝ }
 {
@@ -63,13 +93,40 @@ pub fn put_decimal(out: &mut [u8], at: usize, x: u32) -> usize
     ensures { λ r. ⌜ now (out .exit) ≡ sets (now (out .entry)) at (decimal x) ⌝ }
     ensures { λ r. ⌜ r ≤ at + 10 ⌝ }
 {
+    let long = x as u64;
+    let n = digits(long);
+    spell(out, at, n, long);
+    at + n
+}
+
+// The same for a number that may be longer.
+pub fn put_long(out: &mut [u8], at: usize, x: u64) -> usize
+    requires { ⌜ at + 20 ≤ length (now out) ⌝ }
+    ensures { λ r. ⌜ r ≡ at + length (decimal x) ⌝ }
+    ensures { λ r. ⌜ now (out .exit) ≡ sets (now (out .entry)) at (decimal x) ⌝ }
+    ensures { λ r. ⌜ r ≤ at + 20 ⌝ }
+{
     let n = digits(x);
     spell(out, at, n, x);
     at + n
 }
 
+// Given bytes from a place of the buffer on; the place after them.
+pub fn put_bytes(out: &mut [u8], at: usize, bytes: &[u8]) -> usize
+    requires { ⌜ at + length (now bytes) ≤ length (now out) ⌝ }
+    ensures { λ r. ⌜ r ≡ at + length (now (bytes .entry)) ⌝ }
+    ensures { λ r. ⌜ now (out .exit) ≡ sets (now (out .entry)) at (now (bytes .entry)) ⌝ }
+{
+    let mut i = 0;
+    while i < bytes.len() {
+        out[at + i] = bytes[i];
+        i += 1;
+    }
+    at + i
+}
+
 // A number and the byte that ends it; the place after both.
-fn put_ended(out: &mut [u8], at: usize, x: u32, end: u8) -> usize
+pub fn put_ended(out: &mut [u8], at: usize, x: u32, end: u8) -> usize
     requires { ⌜ at + 11 ≤ length (now out) ⌝ }
     ensures { λ r. ⌜ Put (now (out .entry)) at (decimal x ++ (end ∷ [])) (now (out .exit)) r ⌝ }
     ensures { λ r. ⌜ r ≤ at + 11 ⌝ }
@@ -112,14 +169,48 @@ pub fn put_row(out: &mut [u8], at: usize, words: &[u32], from: usize) -> usize
 // The first `count` rows of the words at the front of the buffer; how many bytes they take.
 pub fn put_rows(out: &mut [u8], words: &[u32], count: usize) -> usize
     requires { ⌜ (count * 66 ≤ length (now out)) × (count * 6 ≤ length (now words)) ⌝ }
-    ensures { λ r. ⌜ r ≡ length (rowsText (rowsOf count (now (words .entry)))) ⌝ }
-    ensures { λ r. ⌜ now (out .exit) ≡ overFront (rowsText (rowsOf count (now (words .entry)))) (now (out .entry)) ⌝ }
+    ensures { λ r. ⌜ r ≡ length (rowsText (rowsOf 6 count (now (words .entry)))) ⌝ }
+    ensures { λ r. ⌜ now (out .exit) ≡ overFront (rowsText (rowsOf 6 count (now (words .entry)))) (now (out .entry)) ⌝ }
     ensures { λ r. ⌜ r ≤ count * 66 ⌝ }
 {
     let mut at: usize = 0;
     let mut i: usize = 0;
     while i < count {
         at = put_row(out, at, words, i * 6);
+        i += 1;
+    }
+    at
+}
+
+// A row of n words, one or more, from a place on; the place after the line.
+fn put_words(out: &mut [u8], at: usize, words: &[u32], from: usize, n: usize) -> usize
+    requires { ⌜ (0 < n) × (at + n * 11 ≤ length (now out)) × (from + n ≤ length (now words)) ⌝ }
+    ensures { λ r. ⌜ Put (now (out .entry)) at (rowText (take n (drop from (now (words .entry))))) (now (out .exit)) r ⌝ }
+    ensures { λ r. ⌜ r ≤ at + n * 11 ⌝ }
+{
+    let last = n - 1;
+    let mut place = at;
+    let mut i: usize = 0;
+    while i < last {
+        place = put_ended(out, place, words[from + i], b' ');
+        i += 1;
+    }
+    put_ended(out, place, words[from + last], b'\n')
+}
+
+// The first `count` rows of n words each, at the front of the buffer; how many bytes they take.
+pub fn put_table(out: &mut [u8], words: &[u32], count: usize, n: usize) -> usize
+    requires { ⌜ (0 < n) × (count * (n * 11) ≤ length (now out)) × (count * n ≤ length (now words)) ⌝ }
+    ensures { λ r. ⌜ r ≡ length (rowsText (rowsOf n count (now (words .entry)))) ⌝ }
+    ensures { λ r. ⌜ now (out .exit) ≡ overFront (rowsText (rowsOf n count (now (words .entry)))) (now (out .entry)) ⌝ }
+    ensures { λ r. ⌜ r ≤ count * (n * 11) ⌝ }
+{
+    let mut at: usize = 0;
+    let mut from: usize = 0;
+    let mut i: usize = 0;
+    while i < count {
+        at = put_words(out, at, words, from, n);
+        from += n;
         i += 1;
     }
     at

@@ -14,7 +14,9 @@ digits-requires : tie.Need-digits-requires
 digits-requires c κs = search needs
 
 spell-requires : tie.Need-spell-requires
-spell-requires c κs = search needs
+spell-requires c κs =
+    let n = c .before .digits in
+    omega (arith, n .ensures .2 (omega arith))
 
 add-result : tie.Need-add-result
 add-result c = search needs
@@ -27,7 +29,7 @@ returns c =
     let a = c .before .before .before .before .before .before .args in
     let n = c .before .before .before .before .digits in
     let all : lastDigits (n .result) (a .x) ≡ _ = n .ensures .1 in
-    (ap (λ k. a .at + k) (sym (last-length (n .result) (a .x)) ∙ ap length all), (c .before .before .spell .ensures ∙ ap (sets (a .out .now) (a .at)) all, omega arith))
+    (ap (λ k. a .at + k) (sym (last-length (n .result) (a .x)) ∙ ap length all), (c .before .before .spell .ensures ∙ ap (sets (a .out .now) (a .at)) all, omega (arith, n .ensures .2 (omega arith))))
 
 pub put-decimal-spec : {M : Type 1} → statement M
 put-decimal-spec =
