@@ -20,6 +20,8 @@ use Rattle.events.proofs.read_at.Reads as read-at
 use Rattle.events.proofs.write.Reads as write
 use Rattle.session.proofs.run.Reads as run
 use Rattle.table1.proofs.rows.Reads as rows
+use Rattle.lines.proofs.read.Reads as line
+use Rattle.questions.proofs.read.Reads as question
 
 -- two things that are the same third
 one : {A : Type 0} {x y z : A} → x ≡ z → y ≡ z → x ≡ y
@@ -70,3 +72,10 @@ run-unique κs a r q s t e f = (one (e .0) (f .0), one (e .1 .0) (f .1 .0))
 
 pub rows-unique : (κs : _) (a : _) (r q : _) (s t : _) → rows.Post κs a r s → rows.Post κs a q t → r ≡ q
 rows-unique κs a r q s t e f = one e f
+
+-- what the programs `record` and `ask` read
+pub line-unique : (κs : _) (a : _) (r q : _) (s t : _) → line.Post κs a r s → line.Post κs a q t → r ≡ q
+line-unique κs a r q s t e f = one e f
+
+pub question-unique : (κs : _) (a : _) (r q : _) (s t : _) → question.Post κs a r s → question.Post κs a q t → r ≡ q
+question-unique κs a r q s t e f = one e f
