@@ -1,7 +1,7 @@
 -- Rows of words: the words of a row, and the text of one row more. Assumes nothing.
 use Prim.Native.Nat.{ℕ, zero, suc, _+_, _*_, _≤_, _<_}
 use mathlib.Core.Path.{_≡_, refl, sym, ap, _∙_}
-use mathlib.Core.List.{List, [], _∷_, _++_, append-nil, append-assoc}
+use mathlib.Core.List.{List, [], _∷_, _++_, map, map-append, append-nil, append-assoc}
 use native.Mathlib.Nat.{zero-add, zero-mul, suc-mul, mul-le-mul-right}
 use native.Mathlib.Numerals.{add-one}
 use native.Mathlib.Omega.{arith}
@@ -9,7 +9,7 @@ use lib.ListN.{length, take, drop, getD, length-drop}
 use lib.Seq.{sets-eq, take-suc, drop-cons, drop-drop, getD-drop}
 use Rattle.lists.specs.Lists.{each, overFront}
 use Rattle.text.specs.Text.{decimal, lineText, rowText, rowsText, rowsOf}
-use Rattle.text.specs.Digits.{Put}
+use Rattle.text.specs.Digits.{spaced, Put}
 use Rattle.text.proofs.Spelling.{put-both}
 
 -- the word at a place, and those behind it
@@ -26,28 +26,33 @@ six-words l i h =
     ∙ rw (word l 5 i 0 (omega arith), word l 4 i 1 (omega arith), word l 3 i 2 (omega arith), word l 2 i 3 (omega arith), word l 1 i 4 (omega arith), word l 0 i 5 (omega arith))
     (ap (λ j. getD l j 0 ∷ getD l (i + 1) 0 ∷ getD l (i + 2) 0 ∷ getD l (i + 3) 0 ∷ getD l (i + 4) 0 ∷ getD l (i + 5) 0 ∷ []) z))
 
--- numbers, each with a space behind it: the front of a row
-unfoldable pub spaced : List ℕ → List ℕ
-spaced ns = each ns (λ x. decimal x ++ (32 ∷ []))
-
+-- one number more with a space behind it
 spaced-more : (xs : List ℕ) (x : ℕ) → spaced (xs ++ (x ∷ [])) ≡ spaced xs ++ (decimal x ++ (32 ∷ []))
 unfolding spaced each
 spaced-more [] x = append-nil (decimal x ++ (32 ∷ []))
 spaced-more (y ∷ ys) x = ap (λ t. (decimal y ++ (32 ∷ [])) ++ t) (spaced-more ys x) ∙ sym (append-assoc (decimal y ++ (32 ∷ [])) (spaced ys) (decimal x ++ (32 ∷ [])))
 
--- a number in front of one or more others
-row-before : (y : ℕ) (ys : List ℕ) (x : ℕ) → rowText (y ∷ (ys ++ (x ∷ []))) ≡ decimal y ++ (32 ∷ rowText (ys ++ (x ∷ [])))
-unfolding rowText lineText
-row-before y [] x = refl
-row-before y (z ∷ zs) x = refl
+-- a word in front of others
+line-before : (v : List ℕ) (ns w : List ℕ) (ws : List (List ℕ)) → lineText (v ∷ (map decimal ns ++ (w ∷ ws))) ≡ v ++ (32 ∷ lineText (map decimal ns ++ (w ∷ ws)))
+unfolding lineText
+line-before v [] w ws = refl
+line-before v (n ∷ ns) w ws = refl
+
+-- A LINE THAT BEGINS WITH NUMBERS
+line-spaced : (ns w : List ℕ) (ws : List (List ℕ)) → lineText (map decimal ns ++ (w ∷ ws)) ≡ spaced ns ++ lineText (w ∷ ws)
+unfolding spaced each
+line-spaced [] w ws = refl
+line-spaced (n ∷ ns) w ws =
+    line-before (decimal n) ns w ws ∙ ap (λ t. decimal n ++ (32 ∷ t)) (line-spaced ns w ws)
+    ∙ sym (ap (λ t. t ++ lineText (w ∷ ws)) (append-assoc (decimal n) (32 ∷ []) (spaced ns)) ∙ append-assoc (decimal n) (32 ∷ spaced ns) (lineText (w ∷ ws)))
+
+pub line-rest : {l m k : List ℕ} {at p q : ℕ} (ns w : List ℕ) (ws : List (List ℕ)) → Put l at (spaced ns) m p → Put m p (lineText (w ∷ ws)) k q → Put l at (lineText (map decimal ns ++ (w ∷ ws))) k q
+line-rest ns w ws a b = rw (line-spaced ns w ws) (put-both a b)
 
 -- a row by its last number
 row-last : (xs : List ℕ) (x : ℕ) → rowText (xs ++ (x ∷ [])) ≡ spaced xs ++ (decimal x ++ (10 ∷ []))
-unfolding spaced each
-row-last [] x = unfold rowText lineText in refl
-row-last (y ∷ ys) x =
-    row-before y ys x ∙ ap (λ t. decimal y ++ (32 ∷ t)) (row-last ys x)
-    ∙ sym (ap (λ t. t ++ (decimal x ++ (10 ∷ []))) (append-assoc (decimal y) (32 ∷ []) (spaced ys)) ∙ append-assoc (decimal y) (32 ∷ spaced ys) (decimal x ++ (10 ∷ [])))
+unfolding rowText lineText
+row-last xs x = ap lineText (map-append decimal xs (x ∷ [])) ∙ line-spaced xs (decimal x) []
 
 -- the word at a place behind those of a part
 part-more : (words : List ℕ) (from i : ℕ) → from + i < length words → take (suc i) (drop from words) ≡ take i (drop from words) ++ (getD words (from + i) 0 ∷ [])

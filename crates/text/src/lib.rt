@@ -6,7 +6,7 @@ ghost use lib.ListN.{length, take, drop};
 ghost use lib.Seq.{sets};
 ghost use Rattle.lists.specs.Lists.{overFront};
 ghost use Rattle.text.specs.Text.{decimal, rowText, rowsText, rowsOf};
-ghost use Rattle.text.specs.Digits.{lastDigits, Put};
+ghost use Rattle.text.specs.Digits.{lastDigits, spaced, Put};
 
 // How many digits a number has. By comparisons: a division for each would take longer than all of them.
 fn digits(x: u64) -> usize
@@ -182,19 +182,29 @@ pub fn put_rows(out: &mut [u8], words: &[u32], count: usize) -> usize
     at
 }
 
+// n words from a place on, each with a space behind it; the place after them.
+pub fn put_spaced(out: &mut [u8], at: usize, words: &[u32], from: usize, n: usize) -> usize
+    requires { ⌜ (at + n * 11 ≤ length (now out)) × (from + n ≤ length (now words)) ⌝ }
+    ensures { λ r. ⌜ Put (now (out .entry)) at (spaced (take n (drop from (now (words .entry))))) (now (out .exit)) r ⌝ }
+    ensures { λ r. ⌜ r ≤ at + n * 11 ⌝ }
+{
+    let mut place = at;
+    let mut i: usize = 0;
+    while i < n {
+        place = put_ended(out, place, words[from + i], b' ');
+        i += 1;
+    }
+    place
+}
+
 // A row of n words, one or more, from a place on; the place after the line.
-fn put_words(out: &mut [u8], at: usize, words: &[u32], from: usize, n: usize) -> usize
+pub fn put_words(out: &mut [u8], at: usize, words: &[u32], from: usize, n: usize) -> usize
     requires { ⌜ (0 < n) × (at + n * 11 ≤ length (now out)) × (from + n ≤ length (now words)) ⌝ }
     ensures { λ r. ⌜ Put (now (out .entry)) at (rowText (take n (drop from (now (words .entry))))) (now (out .exit)) r ⌝ }
     ensures { λ r. ⌜ r ≤ at + n * 11 ⌝ }
 {
     let last = n - 1;
-    let mut place = at;
-    let mut i: usize = 0;
-    while i < last {
-        place = put_ended(out, place, words[from + i], b' ');
-        i += 1;
-    }
+    let place = put_spaced(out, at, words, from, last);
     put_ended(out, place, words[from + last], b'\n')
 }
 

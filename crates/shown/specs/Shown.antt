@@ -1,0 +1,45 @@
+-- A board as `ask` shows it: texts of the issue's rows, in ASCII. Assumes nothing.
+use Prim.Native.Nat.{ℕ, suc}
+use mathlib.Core.Bool.{cond}
+use mathlib.Core.List.{List, [], _∷_, _++_}
+use Rattle.tasks.specs.declared.Phase.{Phase}
+use Rattle.tasks.specs.declared.Phase.the-variants.{Ended, Waiting, Running}
+use Rattle.tasks.specs.declared.Task.{Task}
+use Rattle.tasks.specs.Tasks.{finish, live, stampedAll}
+use Rattle.text.specs.Text.{decimal, lineText, rowText}
+use Rattle.board.specs.declared.Board.{Board}
+
+-- "phase in words": ended, waiting, running
+abbrev pub phaseWord : Phase → List ℕ
+phaseWord Ended = 101 ∷ 110 ∷ 100 ∷ 101 ∷ 100 ∷ []
+phaseWord Waiting = 119 ∷ 97 ∷ 105 ∷ 116 ∷ 105 ∷ 110 ∷ 103 ∷ []
+phaseWord Running = 114 ∷ 117 ∷ 110 ∷ 110 ∷ 105 ∷ 110 ∷ 103 ∷ []
+
+-- "Its first line is `answer N`"
+unfoldable pub answerText : ℕ → List ℕ
+answerText n = lineText ((97 ∷ 110 ∷ 115 ∷ 119 ∷ 101 ∷ 114 ∷ []) ∷ decimal n ∷ [])
+
+-- "a row `slot id w h e d column start finish phase`"
+unfoldable pub taskText : ℕ → Task → List ℕ
+taskText slot k =
+    lineText
+    (decimal slot ∷ decimal (k .id) ∷ decimal (k .w) ∷ decimal (k .h) ∷ decimal (k .e) ∷ decimal (k .d)
+    ∷ decimal (k .column) ∷ decimal (k .start) ∷ decimal (finish k) ∷ phaseWord (k .phase) ∷ [])
+
+-- "for each live task by slot": the slots from one on decide which are live, and what is shown of each stands in another table
+unfoldable pub tasksText : ℕ → List Task → List Task → List ℕ
+tasksText slot [] shown = []
+tasksText slot (k ∷ ks) [] = []
+tasksText slot (k ∷ ks) (s ∷ shown) = cond (live k) (taskText slot s) [] ++ tasksText (suc slot) ks shown
+
+-- "a row `W H now`, then a row .. for each live task by slot, slots counted from 1"
+unfoldable pub shownText : Board → List Task → List ℕ
+shownText b shown = rowText (b .columns ∷ b .rows ∷ b .now ∷ []) ++ tasksText 1 (b .tasks) shown
+
+-- "`ask board`"
+abbrev pub boardText : Board → List ℕ
+boardText b = shownText b (b .tasks)
+
+-- "`ask stamp T`: as `ask board`, the phases stamped at T"
+abbrev pub stampText : ℕ → Board → List ℕ
+stampText instant b = shownText b (stampedAll instant (b .tasks))
