@@ -74,7 +74,7 @@ unfolding Digits all?
 digits-all [] d = refl
 digits-all (b ∷ bs) d = rw (le-leb 48 b (d .0 .least), le-leb b 57 (d .0 .most)) (digits-all bs (d .1))
 
-some-digit : (x : ℕ) → 0 < length (decimal x)
+pub some-digit : (x : ℕ) → 0 < length (decimal x)
 unfolding decimal decimalIn
 some-digit x = go (ltb x 10)
   where
