@@ -1,11 +1,10 @@
 -- Event records: the bytes of an event, what reading a list of bytes gives, the writer's buffer afterwards. Assumes nothing.
 use Prim.Native.Nat.{ℕ, zero, suc, _+_, _*_, _/_, _%_}
-use mathlib.Core.Bool.{Bool, cond}
+use mathlib.Core.Bool.{cond}
 use mathlib.Core.List.{List, [], _∷_, _++_}
 use lib.Dec.{leb, ltb, eqb}
 use lib.ListN.{length, take, drop}
 use Rattle.lists.specs.Lists.{overFront}
-use Rattle.tasks.specs.declared.Submission.{Submission}
 use Rattle.events.specs.declared.Event.{Event}
 use Rattle.events.specs.declared.Event.the-variants.{NewBoard, Submit, Clock, Withdraw}
 use Rattle.events.specs.declared.Reading.{Reading}

@@ -1,5 +1,5 @@
 -- The loop of a run: what is left of the recording gives what is left of the lines, the board and the bytes. Assumes nothing.
-use Prim.Native.Nat.{ℕ, zero, suc, _+_, _-_, _*_, _/_, _≤_, _<_, min}
+use Prim.Native.Nat.{ℕ, zero, suc, _+_, _-_, _*_, _≤_, _<_}
 use mathlib.Core.Path.{_≡_, refl, sym, ap, ap₂, _∙_, subst}
 use mathlib.Core.Logic.{_⊎_, inl, inr}
 use mathlib.Core.Bool.{Bool, true, false, cond}
@@ -28,8 +28,7 @@ use Rattle.events.proofs.Calls.{taken-there}
 use Rattle.session.specs.declared.Device.{Device}
 use Rattle.session.specs.declared.Done.{Done}
 use Rattle.session.specs.declared.Whole.{Whole}
-use Rattle.session.specs.declared.Ran.{Ran}
-use Rattle.session.specs.Recording.{Line, lineOf, Outcome, outcome, mostEvents, Run, still, ranFrom, lineWords, roomFor, ran, ranBuffer}
+use Rattle.session.specs.Recording.{Line, lineOf, Outcome, outcome, Run, still, ranFrom, lineWords, roomFor, ran, ranBuffer}
 use Rattle.session.specs.Standing.{Kept, Follows, asBooked, changed, Took}
 
 -- a whole record, and none

@@ -1,7 +1,7 @@
 -- What each event does to the board inside a run is what its call does in the book. Assumes nothing.
 use Prim.Native.Nat.{ℕ, zero, suc, _+_, _≤_, _<_, max}
 use mathlib.Core.Path.{_≡_, refl, sym, ap, _∙_, subst}
-use mathlib.Core.Bool.{Bool, true, false, not, cond, true≢false}
+use mathlib.Core.Bool.{true, false, not, cond, true≢false}
 use mathlib.Core.List.{List, [], _∷_, map}
 use native.Mathlib.Omega.{arith}
 use borrow.Author.Tests.{lt-ltb, le-ltb}
@@ -18,26 +18,24 @@ use Rattle.tasks.specs.Tasks.{finish, live, runningPhase, phaseAt, stamped, fre
 use Rattle.slots.specs.Slots.{slotSound, sound, named, agedTo, allAgedTo}
 use Rattle.slots.proofs.Soundness.{InPhase, running, waiting, SoundTask, Sound, sound-out, sound-in, each-sound}
 use Rattle.slots.proofs.Ageing.{aged-stands, stamped-live, aged-sound, aged-now, aged-twice}
-use Rattle.apart.specs.Mirrors.{Mirrors, Above, Ended}
+use Rattle.apart.specs.Mirrors.{Above, Ended}
 use Rattle.apart.proofs.Changing.{aged-free-slot, aged-length, mirrors-aged, mirrors-put, mirrors-free, mirrors-none, above-put, above-free}
 use Rattle.board.specs.declared.Board.{Board}
 use Rattle.board.specs.declared.Answer.{Answer}
 use Rattle.board.specs.declared.Answer.the-variants.{Rejected, Placed, Refused}
-use Rattle.board.specs.Answers.{Told, bare, told}
-use Rattle.board.specs.Refusals.{refusal, soundBoard, passed, beyond, refusedCreate}
-use Rattle.board.specs.Calls.{orRefused, withTasks, freshBoard, zeroBoard, created, submitted, boardAt, clocked, withdrawn}
-use Rattle.board.specs.Untested.{boardOf, submittedBooked, clockedUntested, withdrawnUntested, withdrawnAt}
+use Rattle.board.specs.Answers.{bare, told}
+use Rattle.board.specs.Refusals.{refusal, soundBoard, beyond, refusedCreate}
+use Rattle.board.specs.Calls.{orRefused, freshBoard, zeroBoard, created, submitted, boardAt, withdrawn}
+use Rattle.board.specs.Untested.{boardOf, clockedUntested, withdrawnUntested, withdrawnAt}
 use Rattle.board.proofs.Refusals.{refused-by, passed-over}
 use Rattle.board.proofs.Kept.{SoundBoard, submitted-sound, clocked-done, withdrawn-stays-sound, created-sound, zero-unsound}
 use Rattle.board.proofs.Untested.{clocked-sound, clocked-unsound, withdrawn-sound, withdrawn-unsound}
 use Rattle.board.proofs.Submit.{submit-unsound}
 use Rattle.board.proofs.Placed.{BooksAt, placed-books, unplaced-same}
-use Rattle.events.specs.declared.Event.{Event}
 use Rattle.events.specs.declared.Event.the-variants.{NewBoard, Submit, Clock, Withdraw}
 use Rattle.session.specs.declared.Device.{Device}
-use Rattle.session.specs.declared.Done.{Done}
 use Rattle.session.specs.Recording.{Outcome, outcome}
-use Rattle.session.specs.Standing.{Kept, Has, Follows, asBooked, changed}
+use Rattle.session.specs.Standing.{Kept, Follows, asBooked}
 
 -- a record into a slot, before or after the slots are brought up to the clock
 aged-set : (i : ℕ) (ks : List Task) (n : ℕ) (k : Task) → allAgedTo i (set ks n k) ≡ set (allAgedTo i ks) n (agedTo i k)

@@ -8,7 +8,6 @@ use Rattle.board.specs.Answers.{Told, bare, told}
 use Rattle.board.specs.Calls.{zeroBoard, created, submitted, clocked, withdrawn}
 use Rattle.events.specs.declared.Event.{Event}
 use Rattle.events.specs.declared.Event.the-variants.{NewBoard, Submit, Clock, Withdraw}
-use Rattle.events.specs.declared.Reading.{Reading}
 use Rattle.events.specs.declared.Reading.the-variants.{End, Got, CutShort, Unknown}
 use Rattle.events.specs.Records.{kindOf, readFrom}
 use Rattle.session.specs.declared.Ran.{Ran}

@@ -1,7 +1,7 @@
 -- The board inside a run: its device and clock, its slots taken apart, and the records that are brought up to date at the end: code-level definitions; no promise of a public call cites them. Assumes nothing.
 use Prim.Native.Nat.{ℕ, _<_}
 use mathlib.Core.Path.{_≡_}
-use mathlib.Core.Bool.{Bool, true, cond}
+use mathlib.Core.Bool.{true, cond}
 use mathlib.Core.List.{List}
 use lib.Dec.{ltb, eqb}
 use lib.ListN.{length, set, replicate}

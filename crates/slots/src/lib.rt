@@ -1,10 +1,9 @@
 // The 64 slots of a board: whether they are sound, what stands in them, and what the clock makes of them.
 ghost use mathlib.Core.Path.{_≡_};
-ghost use mathlib.Core.Bool.{Bool, not, cond, _&&_};
+ghost use mathlib.Core.Bool.{not, cond};
 ghost use mathlib.Core.List.{List};
-ghost use Prim.Native.Nat.{ℕ, _+_, _-_, _<_, _≤_, min};
-ghost use lib.Dec.{leb, eqb};
-ghost use lib.ListN.{length, getD};
+ghost use Prim.Native.Nat.{_+_, _-_, _<_, _≤_, min};
+ghost use lib.Dec.{eqb};
 ghost use Rattle.lists.specs.Lists.{all?, range, indexOf};
 ghost use Rattle.tasks.specs.declared.Task.{Task};
 ghost use Rattle.tasks.specs.Numbers.{deviceFits};

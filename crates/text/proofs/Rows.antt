@@ -5,7 +5,7 @@ use mathlib.Core.List.{List, [], _∷_, _++_, append-nil, append-assoc}
 use native.Mathlib.Nat.{zero-add}
 use native.Mathlib.Omega.{arith}
 use lib.ListN.{length, take, drop, getD}
-use lib.Seq.{sets, sets-eq, drop-cons, drop-drop}
+use lib.Seq.{sets-eq, drop-cons, drop-drop}
 use Rattle.lists.specs.Lists.{each, overFront}
 use Rattle.text.specs.Text.{rowText, rowsText, rowsOf}
 use Rattle.text.specs.Digits.{Put}

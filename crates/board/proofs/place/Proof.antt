@@ -1,5 +1,5 @@
 -- `board::place` meets its contract: each number asks its planner. Assumes nothing.
-use mathlib.Core.Path.{_≡_, sym, ap, _∙_}
+use mathlib.Core.Path.{sym, ap, _∙_}
 use Rattle.planners.specs.Planners.{planned}
 use Rattle.planners.specs.Lent.{foundOf}
 use Rattle.planners.proofs.Bare.{reference-is}

@@ -1,5 +1,4 @@
 -- `session::answered` meets its contract: each event is its call. Assumes nothing.
-use mathlib.Core.Path.{_≡_}
 use borrow.Author.Needs.{needs}
 use Rattle.session.proofs.answered.Statement.{statement}
 use Rattle.session.proofs.answered.Tie as tie

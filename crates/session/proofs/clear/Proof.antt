@@ -1,11 +1,10 @@
 -- `session::clear` meets its contract: one id less each turn. Assumes nothing.
 use Prim.Native.Nat.{ℕ, _-_, _≤_, _<_}
-use mathlib.Core.Path.{_≡_, refl, _∙_}
+use mathlib.Core.Path.{_≡_, refl}
 use mathlib.Core.List.{List}
 use native.Mathlib.Omega.{arith}
 use native.Mathlib.Decide.{decLt}
 use lib.ListN.{length, getD, length-set}
-use Rattle.apart.specs.Mirrors.{Above}
 use Rattle.lists.proofs.Append.{stored}
 use borrow.Author.Needs.{needs}
 use Rattle.session.proofs.clear.Statement.{statement}

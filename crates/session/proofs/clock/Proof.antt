@@ -1,6 +1,4 @@
 -- `session::clock` meets its contract: 1, 11, 12, or the clock moves and finished tasks leave. Assumes nothing.
-use mathlib.Core.Path.{_≡_, sym, _∙_}
-use native.Mathlib.Omega.{arith}
 use borrow.Author.Tests.{not-true, not-false}
 use Rattle.session.proofs.Steps.{step-same, unsound-clock, clock-back, clock-far, step-clock}
 use borrow.Author.Needs.{needs}

@@ -1,5 +1,5 @@
 -- `session::new_board` meets its contract: no id is left, and the device is new. Assumes nothing.
-use mathlib.Core.Path.{_≡_, sym, _∙_}
+use mathlib.Core.Path.{sym, _∙_}
 use Rattle.session.proofs.Steps.{step-new, step-zero}
 use borrow.Author.Needs.{needs}
 use Rattle.session.proofs.new_board.Statement.{statement}

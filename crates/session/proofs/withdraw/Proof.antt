@@ -1,6 +1,4 @@
 -- `session::withdraw` meets its contract: 1, 13, 14, or the slot is free. Assumes nothing.
-use mathlib.Core.Path.{_≡_, sym, _∙_}
-use native.Mathlib.Omega.{arith}
 use borrow.Author.Tests.{not-true, not-false}
 use Rattle.session.proofs.Steps.{step-same, unsound-withdraw, withdraw-none, withdraw-running, step-withdraw}
 use borrow.Author.Needs.{needs}

@@ -1,9 +1,7 @@
 -- `slots::clashes` meets its contract: none was counted exactly if every later task is apart. Assumes nothing.
-use Prim.Native.Nat.{ℕ, _+_, _-_, _≤_}
-use mathlib.Core.Path.{_≡_, refl, sym, _∙_}
+use Prim.Native.Nat.{_-_}
+use mathlib.Core.Path.{_≡_}
 use native.Mathlib.Omega.{arith}
-use lib.Dec.{eqb}
-use Rattle.lists.specs.Lists.{all?, range}
 use Rattle.slots.specs.Survey.{clashAt}
 use Rattle.slots.proofs.Pairs.{CountedTo, count-none, count-one}
 use borrow.Author.Needs.{needs}

@@ -1,9 +1,8 @@
 -- `slots::survey` meets its contract: the loop passes the slots one by one. Assumes nothing.
-use Prim.Native.Nat.{ℕ, _-_}
-use mathlib.Core.Path.{_≡_, refl, sym, _∙_}
+use Prim.Native.Nat.{_-_}
+use mathlib.Core.Path.{refl}
 use native.Mathlib.Omega.{arith}
 use borrow.Author.Needs.{needs}
-use lib.ListN.{length}
 use Rattle.slots.proofs.Passed.{Passed, begin, pass, end}
 use Rattle.slots.proofs.survey.Statement.{statement}
 use Rattle.slots.proofs.survey.Tie as tie

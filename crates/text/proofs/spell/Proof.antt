@@ -1,8 +1,8 @@
 -- `text::spell` meets its contract: what is left of the digits, put in front of those that stand, gives all of them. Assumes nothing.
-use Prim.Native.Nat.{_+_, _≤_}
-use mathlib.Core.Path.{_≡_, refl, ap, _∙_}
+use Prim.Native.Nat.{_≤_}
+use mathlib.Core.Path.{_≡_, refl, _∙_}
 use native.Mathlib.Omega.{arith}
-use lib.ListN.{length, set, length-set}
+use lib.ListN.{length, length-set}
 use lib.Seq.{sets}
 use Rattle.text.specs.Digits.{lastDigits}
 use Rattle.text.proofs.Spelling.{spell-none, spell-one}
