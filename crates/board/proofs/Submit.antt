@@ -171,13 +171,6 @@ booked-there b a c t free e =
     ap (λ ks. record { answer = Placed c t (t + a .e); board = withTasks b ks })
     (put-index (λ k. not (live k)) (booked (b .now) a t c) (b .tasks) ∙ ap (λ i. set (b .tasks) i (booked (b .now) a t c)) (sym e))
 
-pub is-three : (n : ℕ) → n ≤ 3 → (n ≡ 0 → ⊥) → (n ≡ 1 → ⊥) → (n ≡ 2 → ⊥) → n ≡ 3
-is-three zero h a b c = absurd (a refl)
-is-three (suc zero) h a b c = absurd (b refl)
-is-three (suc (suc zero)) h a b c = absurd (c refl)
-is-three (suc (suc (suc zero))) h a b c = refl
-is-three (suc (suc (suc (suc n)))) h a b c = absurd (omega arith)
-
 -- THE PROMISE: the answer, the board, and document 01's number and values
 pub promised : (r q : Submitted) → r ≡ q → (r ≡ q) × (told (r .answer) ≡ told (q .answer))
 promised r q e = (e, ap (λ x. told (x .answer)) e)

@@ -37,7 +37,7 @@ use Rattle.board.proofs.Placed.{placed-opens, BooksAt, placed-books, unplaced-s
 use Rattle.events.specs.declared.Event.{Event}
 use Rattle.events.specs.declared.Event.the-variants.{NewBoard, Submit, Clock, Withdraw}
 use Rattle.session.specs.Recording.{outcome}
-use Rattle.session.proofs.Steps.{created-not}
+use Rattle.steps.proofs.Steps.{created-not}
 use Rattle.promises.specs.Ledger.{entered, struck, ledgerAfter, Account, accountAfter}
 
 -- an element that does not pass stays where one that passes is replaced, and the new one is there
