@@ -1,8 +1,8 @@
--- `events::field_2` meets its contract: its sum of two bytes is the number of those at the place. Assumes nothing.
-use Rattle.events.proofs.Fields.{field-2}
+-- `fields::field_2` meets its contract: its sum of two bytes is the number of those at the place. Assumes nothing.
+use Rattle.fields.proofs.Fields.{field-2}
 use borrow.Author.Needs.{needs}
-use Rattle.events.proofs.field_2.Statement.{statement}
-use Rattle.events.proofs.field_2.Tie as tie
+use Rattle.fields.proofs.field_2.Statement.{statement}
+use Rattle.fields.proofs.field_2.Tie as tie
 
 shared-slice-read-number-2 : tie.Need-shared-slice-read-number-2
 shared-slice-read-number-2 c = search needs

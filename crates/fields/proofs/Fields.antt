@@ -6,7 +6,7 @@ use native.Mathlib.Numerals.{add-one}
 use native.Mathlib.Omega.{arith}
 use lib.ListN.{length, getD, set}
 use lib.Seq.{drop-cons, sets}
-use Rattle.events.specs.Records.{bytesOf, numberOf, field}
+use Rattle.fields.specs.Fields.{bytesOf, numberOf, field}
 
 -- one byte more: the low byte and 256 times the number of the rest
 pub field-more : (at n : ℕ) (l : List ℕ) → at < length l → field at (suc n) l ≡ getD l at 0 + 256 * field (suc at) n l

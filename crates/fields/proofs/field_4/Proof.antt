@@ -1,8 +1,8 @@
--- `events::field_4` meets its contract: its sum of four bytes is the number of those at the place. Assumes nothing.
-use Rattle.events.proofs.Fields.{field-4}
+-- `fields::field_4` meets its contract: its sum of four bytes is the number of those at the place. Assumes nothing.
+use Rattle.fields.proofs.Fields.{field-4}
 use borrow.Author.Needs.{needs}
-use Rattle.events.proofs.field_4.Statement.{statement}
-use Rattle.events.proofs.field_4.Tie as tie
+use Rattle.fields.proofs.field_4.Statement.{statement}
+use Rattle.fields.proofs.field_4.Tie as tie
 
 shared-slice-read-number-4 : tie.Need-shared-slice-read-number-4
 shared-slice-read-number-4 c = search needs
