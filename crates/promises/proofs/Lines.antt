@@ -111,8 +111,13 @@ planner-number : (n : ℕ) → n < 256 → plannerOf (decimal n) ≡ n
 unfolding plannerOf
 planner-number n h =
     let d : Digits (decimal n) = decimal-digits n in
-    rw (no-name (decimal n) 114 (101 ∷ 102 ∷ 101 ∷ 114 ∷ 101 ∷ 110 ∷ 99 ∷ 101 ∷ []) d (omega arith), no-name (decimal n) 104 (111 ∷ 114 ∷ 105 ∷ 122 ∷ 111 ∷ 110 ∷ []) d (omega arith),
-    no-name (decimal n) 115 (116 ∷ 117 ∷ 102 ∷ 102 ∷ 105 ∷ 110 ∷ 103 ∷ []) d (omega arith), no-name (decimal n) 102 (117 ∷ 108 ∷ 108 ∷ []) d (omega arith), reads-decimal 255 n (omega arith)) (decimal-value n)
+    rw (
+      no-name (decimal n) 114 (101 ∷ 102 ∷ 101 ∷ 114 ∷ 101 ∷ 110 ∷ 99 ∷ 101 ∷ []) d (omega arith),
+      no-name (decimal n) 104 (111 ∷ 114 ∷ 105 ∷ 122 ∷ 111 ∷ 110 ∷ []) d (omega arith),
+      no-name (decimal n) 115 (116 ∷ 117 ∷ 102 ∷ 102 ∷ 105 ∷ 110 ∷ 103 ∷ []) d (omega arith),
+      no-name (decimal n) 102 (117 ∷ 108 ∷ 108 ∷ []) d (omega arith),
+      reads-decimal 255 n (omega arith),
+    ) (decimal-value n)
 
 board-word : Worded boardName
 unfolding Clear Solid
@@ -139,7 +144,19 @@ says-event (NewBoard W H) h =
 says-event (Submit n a) h =
     says-words (submitName ∷ decimal n ∷ decimal (a .id) ∷ decimal (a .w) ∷ decimal (a .h) ∷ decimal (a .e) ∷ decimal (a .d) ∷ [])
     (more submit-word (more (a-number n) (more (a-number (a .id)) (more (a-number (a .w)) (more (a-number (a .h)) (more (a-number (a .e)) (more (a-number (a .d)) none)))))))
-    ∙ rw (planner-number n (h .0), ne-eqb n 256 (λ e. omega arith), reads-decimal 4294967295 (a .id) (omega arith), reads-decimal 65535 (a .w) (omega arith), reads-decimal 65535 (a .h) (omega arith),
-    reads-decimal 4294967295 (a .e) (omega arith), reads-decimal 4294967295 (a .d) (omega arith), decimal-value (a .id), decimal-value (a .w), decimal-value (a .h), decimal-value (a .e), decimal-value (a .d))
+    ∙ rw (
+      planner-number n (h .0),
+      ne-eqb n 256 (λ e. omega arith),
+      reads-decimal 4294967295 (a .id) (omega arith),
+      reads-decimal 65535 (a .w) (omega arith),
+      reads-decimal 65535 (a .h) (omega arith),
+      reads-decimal 4294967295 (a .e) (omega arith),
+      reads-decimal 4294967295 (a .d) (omega arith),
+      decimal-value (a .id),
+      decimal-value (a .w),
+      decimal-value (a .h),
+      decimal-value (a .e),
+      decimal-value (a .d),
+    )
 says-event (Clock i) h = says-words (clockName ∷ decimal i ∷ []) (more clock-word (more (a-number i) none)) ∙ rw (reads-decimal 4294967295 i (omega arith), decimal-value i)
 says-event (Withdraw n) h = says-words (withdrawName ∷ decimal n ∷ []) (more withdraw-word (more (a-number n) none)) ∙ rw (reads-decimal 4294967295 n (omega arith), decimal-value n)
