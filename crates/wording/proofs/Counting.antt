@@ -13,7 +13,8 @@ use Rattle.wording.proofs.Judged.{fits-most}
 use Rattle.wording.proofs.Walking.{no-word}
 use Rattle.wording.specs.declared.Word.{Word}
 use Rattle.wording.specs.declared.Numbers.{Numbers}
-use Rattle.wording.specs.Wording.{ended, words, empty, fits, wrong, nth, part, Next, Counted}
+use Rattle.wording.specs.Wording.{ended, words, empty, fits, wrong, nth}
+use Rattle.wording.specs.Walks.{part, Next, Counted}
 
 -- the numbers of the first i words stand in the array, and the words from a place on decide the rest
 pub record Sofar (l : List ℕ) (at : ℕ) (mosts values : List ℕ) (from i : ℕ) : Type 0 where

@@ -10,7 +10,8 @@ use lib.Seq.{length-take-le, take-all, drop-drop}
 use Rattle.lists.specs.Lists.{indexOf}
 use Rattle.wording.specs.declared.Sort.the-variants.{Blank, Solid}
 use Rattle.wording.specs.declared.Word.{Word}
-use Rattle.wording.specs.Wording.{blank, stopsAt, ended, wordsOn, words, firstWord, otherWords, part, Next}
+use Rattle.wording.specs.Wording.{blank, stopsAt, ended, wordsOn, words, firstWord, otherWords}
+use Rattle.wording.specs.Walks.{part, Next}
 
 -- blanks before a word
 skipped : (xs : List ℕ) → words xs ≡ words (drop (indexOf (stopsAt Solid) xs) xs)

@@ -1,16 +1,13 @@
 -- The words of a text and the numbers that they are, in ASCII. Assumes nothing.
-use Prim.Native.Nat.{ℕ, _+_, _-_, _≤_, _<_}
-use mathlib.Core.Path.{_≡_}
+use Prim.Native.Nat.{ℕ, _+_}
 use mathlib.Core.Bool.{Bool, true, false, cond, not, _&&_, _||_}
 use mathlib.Core.List.{List, [], _∷_, _++_}
 use lib.Dec.{leb, eqb}
-use lib.ListN.{length, take, drop, getD}
+use lib.ListN.{getD}
 use Rattle.lists.specs.Lists.{all?}
 use Rattle.text.specs.Text.{value}
 use Rattle.wording.specs.declared.Sort.{Sort}
 use Rattle.wording.specs.declared.Sort.the-variants.{Blank, Solid, Hash, Newline}
-use Rattle.wording.specs.declared.Word.{Word}
-use Rattle.wording.specs.declared.Numbers.{Numbers}
 
 -- "words parted by spaces or tabs"
 abbrev pub blank : ℕ → Bool
@@ -76,21 +73,3 @@ wrong n (m ∷ ms) (w ∷ ws) = cond (fits m w) (wrong (n + 1) ms ws) n
 -- the number that a word is, by its place from 0
 unfoldable pub nth : ℕ → List (List ℕ) → ℕ
 nth i ws = value 0 (getD ws i [])
-
--- the bytes from a place to another
-abbrev pub part : ℕ → ℕ → List ℕ → List ℕ
-part from to text = take (to - from) (drop from text)
-
--- code level: the first word from a place on, and what it leaves
-pub record Next (text : List ℕ) (at : ℕ) (r : Word) : Type 0 where
-  pub ordered : r .from ≤ r .to
-  pub within : r .to ≤ length text
-  pub first : words (drop at text) ≡ ended (part (r .from) (r .to) text) (words (drop (r .to) text))
-  pub last : r .from ≡ r .to → drop (r .to) text ≡ []
-
--- code level: the numbers of some words, one for each limit, and none above its limit
-pub record Counted (ws : List (List ℕ)) (mosts : List ℕ) (r : Numbers) : Type 0 where
-  pub told : r .wrong ≡ wrong 1 mosts ws
-  pub few : r .wrong ≤ length mosts + 1
-  pub read : r .wrong ≡ 0 → (i : ℕ) → i < length mosts → getD (r .values) i 0 ≡ nth i ws
-  pub small : (i : ℕ) → i < length mosts → getD (r .values) i 0 ≤ getD mosts i 0

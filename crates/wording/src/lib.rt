@@ -5,7 +5,8 @@ ghost use Prim.Native.Nat.{_+_, _-_, _*_, _≤_};
 ghost use lib.ListN.{length, drop};
 ghost use Rattle.lists.specs.Lists.{indexOf};
 ghost use Rattle.text.specs.Text.{value};
-ghost use Rattle.wording.specs.Wording.{blank, stopsAt, words, same, digit, empty, fits, Next, Counted};
+ghost use Rattle.wording.specs.Wording.{blank, stopsAt, words, same, digit, empty, fits};
+ghost use Rattle.wording.specs.Walks.{Next, Counted};
 
 // What a search stops at.
 pub enum Sort {

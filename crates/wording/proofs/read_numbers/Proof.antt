@@ -4,7 +4,8 @@ use mathlib.Core.Path.{_≡_, refl, sym, _∙_}
 use native.Mathlib.Omega.{arith}
 use borrow.Author.Tests.{not-true, not-false}
 use mathlib.Core.Bool.{true}
-use Rattle.wording.specs.Wording.{fits, part}
+use Rattle.wording.specs.Wording.{fits}
+use Rattle.wording.specs.Walks.{part}
 use lib.ListN.{length, getD}
 use Rattle.wording.proofs.Counting.{Sofar, sofar-none, sofar-one, stops-here, all-read, too-many}
 use borrow.Author.Needs.{needs}
