@@ -1,4 +1,4 @@
--- The walk along a row: the runs that have ended are weighed, one is open; at the end all are weighed. Assumes nothing.
+-- The walk along a row: the runs that begin before the place where it stands are weighed; at the end all are. Assumes nothing.
 use Prim.Native.Nat.{ℕ, suc, _+_, _-_, _*_, _≤_, _<_}
 use mathlib.Core.Path.{_≡_, refl, sym, ap, _∙_, subst}
 use mathlib.Core.Logic.{_⊎_, inl, inr}
@@ -12,14 +12,14 @@ use Rattle.lists.specs.Lists.{_∈_}
 use Rattle.lists.proofs.Bools.{or-cases, bool, is-true, is-false}
 use Rattle.columns.specs.Columns.{columns, Run, runs}
 use Rattle.columns.proofs.Runs.{Longest, runs-longest, longest-runs}
-use Rattle.stuffing.specs.Fit.{Jumps, key, none, NextFit}
+use Rattle.stuffing.specs.Fit.{Jumps, LastHeld, FirstHeld, key, none, NextFit}
 
 -- best is the least key past after among the longest runs that begin before `from` and are wide enough, or none
 pub record Weighed (passes : ℕ → Bool) (W w after from best : ℕ) : Type 0 where
   pub least : (q : Run) → Longest passes 1 W q → q .left < from → w ≤ q .size → after < key q → best ≤ key q
   pub one : (best ≡ none) ⊎ ((q : Run) × (Longest passes 1 W q) × (w ≤ q .size) × (after < key q) × (key q ≡ best))
 
--- where the walk stands: the columns from `from` up to c pass, and the one before them does not
+-- an open run: the columns from `from` up to c pass, and the one before them does not
 pub record Standing (passes : ℕ → Bool) (W w after best from c : ℕ) : Type 0 where
   pub low : 1 ≤ from
   pub order : from ≤ c
@@ -28,33 +28,6 @@ pub record Standing (passes : ℕ → Bool) (W w after best from c : ℕ) : Type
   pub passing : (k : ℕ) → from ≤ k → k < c → T (passes k)
   pub edge : (k : ℕ) → suc k ≡ from → 1 ≤ k → T (passes k) → ⊥
   pub weighed : Weighed passes W w after from best
-
-pub stand-first : (passes : ℕ → Bool) (W w after : ℕ) → Standing passes W w after none 1 1
-stand-first passes W w after = record {
-  low = omega arith;
-  order = omega arith;
-  high = omega arith;
-  most = omega arith;
-  passing = λ k l h. absurd (omega arith);
-  edge = λ k e l t. omega arith;
-  weighed = record { least = λ q o l h a. absurd (omega (arith, o .lies .low)); one = inl refl };
-}
-
--- the column passes: the open run is longer
-pub stand-on : {passes : ℕ → Bool} {W w after best from c : ℕ} → Standing passes W w after best from c → c ≤ W → T (passes c) → Standing passes W w after best from (c + 1)
-stand-on {passes} {W} {w} {after} {best} {from} {c} o h t = record {
-  low = o .low;
-  order = omega (arith, o .order);
-  high = omega arith;
-  most = o .most;
-  passing = λ k l m. pick k l (decEq k c) m;
-  edge = o .edge;
-  weighed = o .weighed;
-}
-  where
-    pick : (k : ℕ) → from ≤ k → Dec (k ≡ c) → k < c + 1 → T (passes k)
-    pick k l (yes e) m = rw e t
-    pick k l (no e) m = o .passing k l (omega arith)
 
 -- what `closed` answers
 abbrev pub Closing : (from to w after best r : ℕ) → Type 0
@@ -149,42 +122,98 @@ module _ {passes : ℕ → Bool} {W w after best from c : ℕ} (o : Standing pas
       go (inl t) = over (e ∙ ap (λ b. cond b best k) (is-true (ltb (c - from) w || leb k after || leb best k) t)) t
       go (inr t) = better (e ∙ ap (λ b. cond b best k) (is-false (ltb (c - from) w || leb k after || leb best k) t)) t
 
--- a held column: the walk jumps past its holder
-pub stand-past : {row : List ℕ} {W w after best from c : ℕ} → (o : Standing (λ k. eqb (getD row k 0) 0) W w after best from c) → 1 ≤ w → W ≤ 256 → Jumps W row
-    → {x : ℕ} → x ≡ getD row c 0 → 0 < x → {r : ℕ} → Closing from c w after best r → Standing (λ k. eqb (getD row k 0) 0) W w after r x x
-stand-past {row} {W} {w} {after} {best} {from} {c} o wide small j {x} s h {r} e = record {
-  low = omega (arith, up, o .low, o .order);
-  order = omega arith;
-  high = omega (arith, j .most c);
+-- one free column more
+pub free-more : (row : List ℕ) (c k : ℕ) → getD row c 0 ≡ 0 → ((k ≡ c → ⊥) → getD row k 0 ≡ 0) → getD row k 0 ≡ 0
+free-more row c k z f = step (decEq k c)
+  where
+    step : Dec (k ≡ c) → getD row k 0 ≡ 0
+    step (yes e) = ap (λ x. getD row x 0) e ∙ z
+    step (no e) = f e
+
+-- WHERE THE WALK STANDS: the runs that begin before `from` are weighed, and none of them reaches it
+pub record Passed (passes : ℕ → Bool) (W w after best from : ℕ) : Type 0 where
+  pub low : 1 ≤ from
+  pub high : from ≤ suc W
+  pub most : best ≤ none
+  pub edge : from ≤ W → (k : ℕ) → suc k ≡ from → 1 ≤ k → T (passes from) → T (passes k) → ⊥
+  pub weighed : Weighed passes W w after from best
+
+pub pass-first : (passes : ℕ → Bool) (W w after : ℕ) → Passed passes W w after none 1
+pass-first passes W w after = record {
+  low = omega arith;
+  high = omega arith;
+  most = omega arith;
+  edge = λ h k e l t s. omega arith;
+  weighed = record { least = λ q o l h a. absurd (omega (arith, o .lies .low)); one = inl refl };
+}
+
+-- one of the next w columns is held: no run that is wide enough begins before its holder ends
+pub pass-held : {row : List ℕ} {W w after best from x : ℕ} → Passed (λ k. eqb (getD row k 0) 0) W w after best from → Jumps W row
+    → LastHeld row from (from + w) x → 0 < x → (from < x) × Passed (λ k. eqb (getD row k 0) 0) W w after best x
+pass-held {row} {W} {w} {after} {best} {from} {x} o j i n = go (i .held n)
+  where
+    go : (c : ℕ) × (from ≤ c) × (c < from + w) × (getD row c 0 ≡ x) → (from < x) × Passed (λ k. eqb (getD row k 0) 0) W w after best x
+    go (c, l, h, s) = (
+      omega (arith, up),
+      record {
+        low = omega (arith, up);
+        high = omega (arith, j .most c);
+        most = o .most;
+        edge = λ p k e m t u. held k (omega (arith, up)) (omega arith) u;
+        weighed = record { least = λ q p b m a. far q p b m a (decLt (q .left) from) (decLt c (q .left)); one = o .weighed .one };
+      },
+    )
+      where
+        up : c < x
+        up = omega (arith, j .up c (omega arith))
+
+        held : (k : ℕ) → c ≤ k → k < x → T (eqb (getD row k 0) 0) → ⊥
+        held k l m t = let z = eqb→eq (getD row k 0) 0 t in let y = j .held c k l (omega arith) in omega arith
+
+        far : (q : Run) → Longest (λ k. eqb (getD row k 0) 0) 1 W q → q .left < x → w ≤ q .size → after < key q → Dec (q .left < from) → Dec (c < q .left) → best ≤ key q
+        far q p b m a (yes d) g = o .weighed .least q p d m a
+        far q p b m a (no d) (yes g) = absurd (held (q .left) (omega arith) b (p .lies .passes (q .left) (omega arith) (omega (arith, p .lies .not-empty))))
+        far q p b m a (no d) (no g) = absurd (held c (omega arith) up (p .lies .passes c (omega arith) (omega arith)))
+
+-- the next w columns are free: the run from there, up to the first held column, is weighed
+pub pass-free : {row : List ℕ} {W w after best from to x : ℕ} → Passed (λ k. eqb (getD row k 0) 0) W w after best from → 1 ≤ w → W ≤ 256
+    → LastHeld row from (from + w) x → x ≡ 0 → FirstHeld row (from + w) W to → {r : ℕ} → Closing from to w after best r → Passed (λ k. eqb (getD row k 0) 0) W w after r to
+pass-free {row} {W} {w} {after} {best} {from} {to} o wide small i z f {r} e = record {
+  low = omega (arith, o .low, f .low);
+  high = f .high;
   most = v .0;
-  passing = λ k l m. absurd (omega arith);
-  edge = λ k q l t. held k (omega (arith, up)) (omega arith) t;
-  weighed = record { least = λ q p l m a. far q p l m a (decLt (q .left) c); one = v .1 .one };
+  edge = λ p k q m t u. ended p t;
+  weighed = v .1;
 }
   where
-    up : c < x
-    up = omega (arith, j .up c (omega arith))
+    free : (k : ℕ) → from ≤ k → k < to → T (eqb (getD row k 0) 0)
+    free k l h = subst (λ y. T (eqb y 0)) (sym (step (decLt k (from + w)))) tt
+      where
+        step : Dec (k < from + w) → getD row k 0 ≡ 0
+        step (yes d) = i .free z k l d
+        step (no d) = f .free k (omega arith) h
 
-    held : (k : ℕ) → c ≤ k → k < x → T (eqb (getD row k 0) 0) → ⊥
-    held k l m t = let z = eqb→eq (getD row k 0) 0 t in let y = j .held c k l (omega arith) in omega arith
+    ended : to ≤ W → T (eqb (getD row to 0) 0) → ⊥
+    ended p t = let y = eqb→eq (getD row to 0) 0 t in let u = f .held p in omega arith
 
-    v : (r ≤ none) × Weighed (λ k. eqb (getD row k 0) 0) W w after c r
-    v = weigh o wide small (λ l t. held c (omega arith) up t) e
+    v : (r ≤ none) × Weighed (λ k. eqb (getD row k 0) 0) W w after to r
+    v = weigh (record {
+      low = o .low;
+      order = omega (arith, f .low);
+      high = f .high;
+      most = o .most;
+      passing = free;
+      edge = λ k q m t. o .edge (omega (arith, f .low, f .high)) k q m (free from (omega arith) (omega (arith, f .low))) t;
+      weighed = o .weighed;
+    }) wide small ended e
 
-    far : (q : Run) → Longest (λ k. eqb (getD row k 0) 0) 1 W q → q .left < x → w ≤ q .size → after < key q → Dec (q .left < c) → r ≤ key q
-    far q p l m a (yes d) = v .1 .least q p d m a
-    far q p l m a (no d) = absurd (held (q .left) (omega arith) l (p .lies .passes (q .left) (omega arith) (omega (arith, p .lies .not-empty))))
-
--- past the last column all runs are weighed
-pub stand-last : {passes : ℕ → Bool} {W w after best from c : ℕ} → Standing passes W w after best from c → 1 ≤ w → W ≤ 256 → W < c → {r : ℕ} → Closing from c w after best r → NextFit passes W w after r
-stand-last {passes} {W} {w} {after} {best} {from} {c} o wide small h {r} e = record {
-  least = λ q m l a. let p = runs-longest passes 1 W m in v .1 .least q p (omega (arith, p .lies .high, p .lies .not-empty)) l a;
-  one = found (v .1 .one);
+-- no room for w columns is left: all runs that are wide enough are weighed
+pub pass-last : {passes : ℕ → Bool} {W w after best from : ℕ} → Passed passes W w after best from → suc W < from + w → NextFit passes W w after best
+pass-last {passes} {W} {w} {after} {best} {from} o h = record {
+  least = λ q m l a. let p = runs-longest passes 1 W m in o .weighed .least q p (omega (arith, p .lies .high)) l a;
+  one = found (o .weighed .one);
 }
   where
-    v : (r ≤ none) × Weighed passes W w after c r
-    v = weigh o wide small (λ l t. omega arith) e
-
-    found : (r ≡ none) ⊎ ((q : Run) × (Longest passes 1 W q) × (w ≤ q .size) × (after < key q) × (key q ≡ r)) → (r ≡ none) ⊎ ((q : Run) × (q ∈ runs passes (columns W)) × (w ≤ q .size) × (after < key q) × (key q ≡ r))
+    found : (best ≡ none) ⊎ ((q : Run) × (Longest passes 1 W q) × (w ≤ q .size) × (after < key q) × (key q ≡ best)) → (best ≡ none) ⊎ ((q : Run) × (q ∈ runs passes (columns W)) × (w ≤ q .size) × (after < key q) × (key q ≡ best))
     found (inl z) = inl z
     found (inr s) = inr (s .0, longest-runs passes 1 W (s .0) (s .1), s .2, s .3, s .4)

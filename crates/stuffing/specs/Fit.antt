@@ -31,6 +31,18 @@ pub record Row (passes : ℕ → Bool) (W : ℕ) (row : List ℕ) : Type 0 where
   pub jumps : Jumps W row
   pub says : (c : ℕ) → 1 ≤ c → c ≤ W → eqb (getD row c 0) 0 ≡ passes c
 
+-- what a held column says, of those from `from` up to `to`; 0 where none is held
+pub record LastHeld (row : List ℕ) (from to r : ℕ) : Type 0 where
+  pub free : r ≡ 0 → (k : ℕ) → from ≤ k → k < to → getD row k 0 ≡ 0
+  pub held : 0 < r → (k : ℕ) × (from ≤ k) × (k < to) × (getD row k 0 ≡ r)
+
+-- r is the first held column from `from` on, or the one past the W of the device
+pub record FirstHeld (row : List ℕ) (from W r : ℕ) : Type 0 where
+  pub low : from ≤ r
+  pub high : r ≤ suc W
+  pub free : (k : ℕ) → from ≤ k → k < r → getD row k 0 ≡ 0
+  pub held : r ≤ W → 0 < getD row r 0
+
 -- a run's key: less where it is narrower, or as narrow and further left
 abbrev pub key : Run → ℕ
 key r = r .size * 512 + r .left

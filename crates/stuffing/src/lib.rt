@@ -7,7 +7,7 @@ ghost use lib.ListN.{length, getD};
 ghost use Rattle.lists.specs.Lists.{some?};
 ghost use Rattle.planners.specs.Planners.{free, stuffing};
 ghost use Rattle.planners.specs.Lent.{foundOf, tasksOf, OnDevice, asked};
-ghost use Rattle.stuffing.specs.Fit.{meetsAt, HeldTo, Row, Jumps, NextFit};
+ghost use Rattle.stuffing.specs.Fit.{meetsAt, HeldTo, Row, Jumps, LastHeld, FirstHeld, NextFit};
 use planners::Found;
 
 // No number: past every key.
@@ -78,26 +78,58 @@ fn closed(from: u32, to: u32, w: u32, after: u32, best: u32) -> u32
     key
 }
 
-// The next free interval in best-fit order after the one with the key `after`: its key, size * 512 + left edge, or NONE.
+// Of the columns from `from` up to, not including, `to`: the first column past the holder of the last that is held; 0 where all are free.
+fn last_held(row: &[u16; 257], from: u32, to: u32) -> u32
+    requires { ⌜ to ≤ 257 ⌝ }
+    ensures { λ r. ⌜ LastHeld (now (row .entry)) from to r ⌝ }
+{
+    let mut c = to;
+    while from < c {
+        c -= 1;
+        let at = c as usize;
+        let past = wide(row[at]);
+        if past != 0 {
+            return past;
+        }
+    }
+    0
+}
+
+// The first column from `from` on that is held, or the one past the width.
+fn first_held(row: &[u16; 257], from: u32, width: u32) -> u32
+    requires { ⌜ (width ≤ 256) × (from ≤ width + 1) ⌝ }
+    ensures { λ r. ⌜ FirstHeld (now (row .entry)) from width r ⌝ }
+{
+    let mut c = from;
+    while c <= width {
+        let at = c as usize;
+        if row[at] != 0 {
+            return c;
+        }
+        c += 1;
+    }
+    c
+}
+
+// The next free interval in best-fit order after the one with the key `after`: its key, size * 512 + left edge, or NONE. The w
+// columns from `from` on are looked at from their far end: where one is held, no interval that is wide enough begins before its holder ends.
 fn next_fit(row: &[u16; 257], width: u32, w: u32, after: u32) -> u32
-    requires { ⌜ (width ≤ 256) × (1 ≤ w) × Jumps width (now row) ⌝ }
+    requires { ⌜ (width ≤ 256) × (1 ≤ w) × (w ≤ 256) × Jumps width (now row) ⌝ }
     ensures { λ r. ⌜ NextFit (λ c. eqb (getD (now (row .entry)) c 0) 0) width w after r ⌝ }
 {
     let mut best = NONE;
     let mut from: u32 = 1;
-    let mut c: u32 = 1;
-    while c <= width {
-        let at = c as usize;
-        let past = wide(row[at]);
+    while from + w <= width + 1 {
+        let past = last_held(row, from, from + w);
         if past == 0 {
-            c += 1;
+            let to = first_held(row, from + w, width);
+            best = closed(from, to, w, after, best);
+            from = to;
         } else {
-            best = closed(from, c, w, after, best);
             from = past;
-            c = past;
         }
     }
-    closed(from, c, w, after, best)
+    best
 }
 
 // Whether a stay on w columns from c on, e ticks from t on, shares a column with a task at a tick.

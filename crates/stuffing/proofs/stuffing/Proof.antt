@@ -38,7 +38,7 @@ tries-holds c =
     tries-start _ (s .args .clock) _ _ _ (s .args .d) (s .pre .0 .wide) _ (omega arith)
 
 next-fit-requires : tie.Need-next-fit-requires Inv-tries μ-tries Inv-visits μ-visits
-next-fit-requires c κs = let h = c .before .before in (h .before .before .pre .0 .wide, omega arith, h .held-row .ensures .jumps)
+next-fit-requires c κs = let h = c .before .before in (h .before .before .pre .0 .wide, omega arith, omega (arith, h .before .before .pre .0 .wide), h .held-row .ensures .jumps)
 
 meets-any-requires : tie.Need-meets-any-requires Inv-tries μ-tries Inv-visits μ-visits
 meets-any-requires c κs =
