@@ -2,7 +2,7 @@
 ghost use mathlib.Core.Path.{_≡_};
 ghost use Prim.Native.Nat.{_+_, _<_};
 ghost use lib.ListN.{length, drop};
-ghost use Rattle.events.specs.Records.{newBoardIn, submitIn, clockIn, withdrawIn, wholeOr15, readFrom, written, writtenBuffer, toldRead, toldWritten};
+ghost use Rattle.events.specs.Records.{kindOf, newBoardIn, submitIn, clockIn, withdrawIn, wholeOr15, readFrom, written, writtenBuffer, toldRead, toldWritten};
 use tasks::Submission;
 
 // "an event's fields have the record's widths"
@@ -74,6 +74,24 @@ fn read_withdraw(body: &[u8]) -> Reading
     }
     let id = fields::field_4(body, 0);
     Reading::Got(Event::Withdraw { id }, 5)
+}
+
+// The kind byte of an event.
+pub fn kind_of(event: Event) -> u8
+    ensures { λ r. ⌜ r ≡ kindOf event ⌝ }
+{
+    match event {
+        Event::NewBoard {
+            columns: _,
+            rows: _,
+        } => 1,
+        Event::Submit {
+            planner: _,
+            task: _,
+        } => 2,
+        Event::Clock { instant: _ } => 3,
+        Event::Withdraw { id: _ } => 4,
+    }
 }
 
 // THE READER, from a place of a longer buffer on: nothing is copied, and a place past the end is the end.

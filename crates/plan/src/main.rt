@@ -22,16 +22,11 @@ struct State {
 }
 
 // "After 15 or 16 it prints that line (kind as the byte read, zeros)": its six words.
-fn put_last(words: &mut [u32], at: usize, number: u32, kind: u32, answer: u32)
+fn put_last(words: &mut [u32], at: usize, number: u32, kind: u8, answer: u8)
     requires { ⌜ at + 6 ≤ length (now words) ⌝ }
     ensures { λ _. ⌜ now (words .exit) ≡ sets (now (words .entry)) at (number ∷ kind ∷ answer ∷ 0 ∷ 0 ∷ 0 ∷ []) ⌝ }
 {
-    words[at] = number;
-    words[at + 1] = kind;
-    words[at + 2] = answer;
-    words[at + 3] = 0;
-    words[at + 4] = 0;
-    words[at + 5] = 0;
+    session::put_line(words, at, number, kind, answer, 0, 0, 0);
 }
 
 // Writes the lines that wait; where that fails, says so on standard error.
@@ -84,13 +79,7 @@ fn stopped(text: &mut [u8], words: &mut [u32], s: State, last: Told) -> State
     if last.number == 0 {
         return ended(text, words, s);
     }
-    put_last(
-        words,
-        s.lines * 6,
-        s.number + 1,
-        streams::wide(last.kind),
-        streams::wide(last.number),
-    );
+    put_last(words, s.lines * 6, s.number + 1, last.kind, last.number);
     let more = State {
         from: s.from,
         to: s.to,

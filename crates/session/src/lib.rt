@@ -6,7 +6,6 @@ ghost use Prim.Native.Nat.{_+_, _-_, _*_, _≤_, _<_};
 ghost use lib.ListN.{length, drop};
 ghost use lib.Seq.{sets};
 ghost use Rattle.tasks.specs.declared.Task.{Task};
-ghost use Rattle.events.specs.Records.{kindOf};
 ghost use Rattle.session.specs.Recording.{roomFor, ran, ranBuffer};
 ghost use Rattle.steps.specs.Standing.{asBooked};
 ghost use Rattle.session.specs.Standing.{Took};
@@ -23,30 +22,12 @@ pub struct Ran {
     pub board: Board,
 }
 
-// "1 new board", "2 submit", "3 clock", "4 withdraw".
-fn kind(event: Event) -> u32
-    ensures { λ r. ⌜ r ≡ kindOf event ⌝ }
-{
-    match event {
-        Event::NewBoard {
-            columns: _,
-            rows: _,
-        } => 1,
-        Event::Submit {
-            planner: _,
-            task: _,
-        } => 2,
-        Event::Clock { instant: _ } => 3,
-        Event::Withdraw { id: _ } => 4,
-    }
-}
-
 // "event number from 1, kind, answer, column, start, finish"
-fn put_line(
+pub fn put_line(
     answers: &mut [u32],
     at: usize,
     event: u32,
-    kind: u32,
+    kind: u8,
     number: u8,
     column: u16,
     start: u32,
@@ -56,7 +37,7 @@ fn put_line(
     ensures { λ _. ⌜ now (answers .exit) ≡ sets (now (answers .entry)) at (event ∷ kind ∷ number ∷ column ∷ start ∷ finish ∷ []) ⌝ }
 {
     answers[at] = event;
-    answers[at + 1] = kind;
+    answers[at + 1] = kind as u32;
     answers[at + 2] = number as u32;
     answers[at + 3] = column as u32;
     answers[at + 4] = start;
@@ -161,7 +142,7 @@ pub fn run(board: Board, number: u32, bytes: &[u8], answers: &mut [u32]) -> Ran
                 answers,
                 n * 6,
                 number + n as u32 + 1,
-                kind(event),
+                events::kind_of(event),
                 r.number,
                 r.column,
                 r.start,

@@ -3,8 +3,7 @@ ghost use mathlib.Core.Path.{_≡_};
 ghost use Prim.Native.Nat.{_-_, _≤_, _<_};
 ghost use lib.ListN.{length, take, drop};
 ghost use Rattle.lists.specs.Lists.{overFront};
-ghost use Rattle.events.specs.Records.{kindOf, toldRead};
-use events::Event;
+ghost use Rattle.events.specs.Records.{toldRead};
 use events::Reading;
 
 // What a reading is in 01's numbers.
@@ -12,24 +11,6 @@ pub struct Told {
     pub number: u8,
     pub kind: u8,
     pub taken: usize,
-}
-
-// The kind byte of an event.
-pub fn kind_of(event: Event) -> u8
-    ensures { λ r. ⌜ r ≡ kindOf event ⌝ }
-{
-    match event {
-        Event::NewBoard {
-            columns: _,
-            rows: _,
-        } => 1,
-        Event::Submit {
-            planner: _,
-            task: _,
-        } => 2,
-        Event::Clock { instant: _ } => 3,
-        Event::Withdraw { id: _ } => 4,
-    }
 }
 
 pub fn numbers_of(reading: Reading) -> Told
@@ -43,7 +24,7 @@ pub fn numbers_of(reading: Reading) -> Told
         },
         Reading::Got(event, size) => Told {
             number: 0,
-            kind: kind_of(event),
+            kind: events::kind_of(event),
             taken: size,
         },
         Reading::CutShort(kind) => Told {

@@ -1,88 +1,16 @@
--- `plan::put_last` meets its contract: six stores one behind the other. Assumes nothing.
-use native.Mathlib.Omega.{arith}
-use lib.ListN.{length-set}
-use Rattle.plan.proofs.Storing.{six-stored}
+-- `plan::put_last` meets its contract: a line as `session` puts it. Assumes nothing.
 use borrow.Author.Needs.{needs}
 use Rattle.plan.proofs.put_last.Statement.{statement}
 use Rattle.plan.proofs.put_last.Tie as tie
 
-mul-words : tie.Need-mul-words
-mul-words c = search needs
-
-slice-write-words : tie.Need-slice-write-words
-slice-write-words c = search needs
-
-add-words : tie.Need-add-words
-add-words c = search needs
-
-mul-words-2 : tie.Need-mul-words-2
-mul-words-2 c = search needs
-
-slice-write-words-2 : tie.Need-slice-write-words-2
-slice-write-words-2 c = simp length-set (omega arith)
-
-add-words-2 : tie.Need-add-words-2
-add-words-2 c = search needs
-
-mul-words-3 : tie.Need-mul-words-3
-mul-words-3 c = search needs
-
-slice-write-words-3 : tie.Need-slice-write-words-3
-slice-write-words-3 c = simp length-set (omega arith)
-
-add-words-3 : tie.Need-add-words-3
-add-words-3 c = search needs
-
-mul-words-4 : tie.Need-mul-words-4
-mul-words-4 c = search needs
-
-slice-write-words-4 : tie.Need-slice-write-words-4
-slice-write-words-4 c = simp length-set (omega arith)
-
-add-words-4 : tie.Need-add-words-4
-add-words-4 c = search needs
-
-mul-words-5 : tie.Need-mul-words-5
-mul-words-5 c = search needs
-
-slice-write-words-5 : tie.Need-slice-write-words-5
-slice-write-words-5 c = simp length-set (omega arith)
-
-add-words-5 : tie.Need-add-words-5
-add-words-5 c = search needs
-
-mul-words-6 : tie.Need-mul-words-6
-mul-words-6 c = search needs
-
-slice-write-words-6 : tie.Need-slice-write-words-6
-slice-write-words-6 c = simp length-set (omega arith)
+put-line-requires : tie.Need-put-line-requires
+put-line-requires c κs = search needs
 
 same-length : tie.Need-same-length
 same-length c = search needs
 
 returns : tie.Need-returns
-returns c = six-stored (c .args .words .now) (c .args .at) (c .args .number) (c .args .kind) (c .args .answer)
+returns c = c .before .before .put-line .ensures
 
 pub put-last-spec : {M : Type 1} → statement M
-put-last-spec =
-    tie.close
-    (tie.spec
-    mul-words
-    slice-write-words
-    add-words
-    mul-words-2
-    slice-write-words-2
-    add-words-2
-    mul-words-3
-    slice-write-words-3
-    add-words-3
-    mul-words-4
-    slice-write-words-4
-    add-words-4
-    mul-words-5
-    slice-write-words-5
-    add-words-5
-    mul-words-6
-    slice-write-words-6
-    same-length
-    returns)
+put-last-spec = tie.close (tie.spec put-line-requires same-length returns)

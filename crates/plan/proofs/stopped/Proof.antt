@@ -22,20 +22,14 @@ mul-put-last c = search needs
 add-put-last : tie.Need-add-put-last
 add-put-last c = search needs
 
-wide-requires : tie.Need-wide-requires
-wide-requires c κs = search needs
-
-wide-requires-2 : tie.Need-wide-requires-2
-wide-requires-2 c κs = search needs
-
 put-last-requires : tie.Need-put-last-requires
 put-last-requires c κs = search needs
 
 add-t14 : tie.Need-add-t14
 add-t14 c = search needs
 
-add-t17 : tie.Need-add-t17
-add-t17 c = search needs
+add-t15 : tie.Need-add-t15
+add-t15 c = search needs
 
 ended-requires-2 : tie.Need-ended-requires-2
 ended-requires-2 c κs = search needs
@@ -59,11 +53,9 @@ stopped-spec =
     returns
     mul-put-last
     add-put-last
-    wide-requires
-    wide-requires-2
     put-last-requires
     add-t14
-    add-t17
+    add-t15
     ended-requires-2
     same-length-3
     same-length-4

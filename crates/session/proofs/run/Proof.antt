@@ -84,8 +84,8 @@ add-put-line-2 c =
     let m = at .before .room .ensures in
     omega (arith, i, m, o .upto, o .bound, at .before .before .before .before .before .before .before .before .before .before .before .before .good .1 .1 .1 .0 .1)
 
-kind-requires : tie.Need-kind-requires Inv-loop μ-loop
-kind-requires c κs = search needs
+kind-of-requires : tie.Need-kind-of-requires Inv-loop μ-loop
+kind-of-requires c κs = search needs
 
 put-line-requires : tie.Need-put-line-requires Inv-loop μ-loop
 put-line-requires c κs =
@@ -123,7 +123,7 @@ loop-less-2 c =
 loop-again-2 : tie.Need-loop-again-2 Inv-loop μ-loop
 loop-again-2 c =
     let at = c .before .before .before .before .before .before .before .before .before .before .before .before .before .before .before .before .before in
-    run-more (at .loop .inv) (c .before .before .before .before .before .before .before .before .before .before .before .before .before .before .before .before .loop-test .taken) (c .before .before .before .before .before .before .before .before .before .before .before .before .before .before .before .next .ensures) (omega (arith, c .before .before .before .before .before .before .before .before .before .before .before .before .before .before .if1 .left)) (c .before .before .before .before .before .before .before .before .answered .ensures) (c .before .before .before .before .before .before .kind .ensures) (c .before .before .before .before .before .put-line .ensures) (changed-put (c .before .before .before .before .before .before .before .before .answered .result) (at .loop .tasks) (c .before .if2 .taken)) (simp length-set (at .loop .inv .size))
+    run-more (at .loop .inv) (c .before .before .before .before .before .before .before .before .before .before .before .before .before .before .before .before .loop-test .taken) (c .before .before .before .before .before .before .before .before .before .before .before .before .before .before .before .next .ensures) (omega (arith, c .before .before .before .before .before .before .before .before .before .before .before .before .before .before .if1 .left)) (c .before .before .before .before .before .before .before .before .answered .ensures) (c .before .before .before .before .before .before .kind-of .ensures) (c .before .before .before .before .before .put-line .ensures) (changed-put (c .before .before .before .before .before .before .before .before .answered .result) (at .loop .tasks) (c .before .if2 .taken)) (simp length-set (at .loop .inv .size))
 
 free-slot-requires : tie.Need-free-slot-requires Inv-loop μ-loop
 free-slot-requires c κs = search needs
@@ -135,7 +135,7 @@ loop-less-3 c =
 loop-again-3 : tie.Need-loop-again-3 Inv-loop μ-loop
 loop-again-3 c =
     let at = c .before .before .before .before .before .before .before .before .before .before .before .before .before .before .before .before .before .before in
-    run-more (at .loop .inv) (c .before .before .before .before .before .before .before .before .before .before .before .before .before .before .before .before .before .loop-test .taken) (c .before .before .before .before .before .before .before .before .before .before .before .before .before .before .before .before .next .ensures) (omega (arith, c .before .before .before .before .before .before .before .before .before .before .before .before .before .before .before .if1 .left)) (c .before .before .before .before .before .before .before .before .before .answered .ensures) (c .before .before .before .before .before .before .before .kind .ensures) (c .before .before .before .before .before .before .put-line .ensures) (changed-all (c .before .before .before .before .before .before .before .before .before .answered .result) (at .loop .tasks) (c .before .if3 .taken) (c .free-slot .result) (c .free-slot .ensures)) refl
+    run-more (at .loop .inv) (c .before .before .before .before .before .before .before .before .before .before .before .before .before .before .before .before .before .loop-test .taken) (c .before .before .before .before .before .before .before .before .before .before .before .before .before .before .before .before .next .ensures) (omega (arith, c .before .before .before .before .before .before .before .before .before .before .before .before .before .before .before .if1 .left)) (c .before .before .before .before .before .before .before .before .before .answered .ensures) (c .before .before .before .before .before .before .before .kind-of .ensures) (c .before .before .before .before .before .before .put-line .ensures) (changed-all (c .before .before .before .before .before .before .before .before .before .answered .result) (at .loop .tasks) (c .before .if3 .taken) (c .free-slot .result) (c .free-slot .ensures)) refl
 
 loop-less-4 : tie.Need-loop-less-4 Inv-loop μ-loop
 loop-less-4 c =
@@ -144,7 +144,7 @@ loop-less-4 c =
 loop-again-4 : tie.Need-loop-again-4 Inv-loop μ-loop
 loop-again-4 c =
     let at = c .before .before .before .before .before .before .before .before .before .before .before .before .before .before .before .before .before in
-    run-more (at .loop .inv) (c .before .before .before .before .before .before .before .before .before .before .before .before .before .before .before .before .loop-test .taken) (c .before .before .before .before .before .before .before .before .before .before .before .before .before .before .before .next .ensures) (omega (arith, c .before .before .before .before .before .before .before .before .before .before .before .before .before .before .if1 .left)) (c .before .before .before .before .before .before .before .before .answered .ensures) (c .before .before .before .before .before .before .kind .ensures) (c .before .before .before .before .before .put-line .ensures) (changed-none (c .before .before .before .before .before .before .before .before .answered .result) (at .loop .tasks) (c .before .if2 .left) (c .if3 .left)) (at .loop .inv .size)
+    run-more (at .loop .inv) (c .before .before .before .before .before .before .before .before .before .before .before .before .before .before .before .before .loop-test .taken) (c .before .before .before .before .before .before .before .before .before .before .before .before .before .before .before .next .ensures) (omega (arith, c .before .before .before .before .before .before .before .before .before .before .before .before .before .before .if1 .left)) (c .before .before .before .before .before .before .before .before .answered .ensures) (c .before .before .before .before .before .before .kind-of .ensures) (c .before .before .before .before .before .put-line .ensures) (changed-none (c .before .before .before .before .before .before .before .before .answered .result) (at .loop .tasks) (c .before .if2 .left) (c .if3 .left)) (at .loop .inv .size)
 
 brought-requires : tie.Need-brought-requires Inv-loop μ-loop
 brought-requires c κs = search needs
@@ -176,7 +176,7 @@ run-spec =
     cast-put-line
     add-put-line
     add-put-line-2
-    kind-requires
+    kind-of-requires
     put-line-requires
     add-at
     add-n

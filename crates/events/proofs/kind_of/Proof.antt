@@ -1,9 +1,9 @@
--- `streams::kind_of` meets its contract. Assumes nothing.
+-- `events::kind_of` meets its contract. Assumes nothing.
 use mathlib.Core.Path.{sym, ap}
 use Rattle.events.specs.Records.{kindOf}
 use borrow.Author.Needs.{needs}
-use Rattle.streams.proofs.kind_of.Statement.{statement}
-use Rattle.streams.proofs.kind_of.Tie as tie
+use Rattle.events.proofs.kind_of.Statement.{statement}
+use Rattle.events.proofs.kind_of.Tie as tie
 
 enum-told : tie.Need-enum-told
 enum-told c = search needs
