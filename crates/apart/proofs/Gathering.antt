@@ -1,19 +1,17 @@
 -- The live tasks gathered from the arrays are those that a survey of the slots finds. Assumes nothing.
 use Prim.Native.Nat.{ℕ, zero, suc, _+_, _≤_, _<_, min}
 use mathlib.Core.Path.{_≡_, refl, sym, ap, _∙_, subst}
-use mathlib.Core.Logic.{_⊎_, inl, inr}
-use mathlib.Core.Bool.{Bool, true, false, not, cond, _&&_}
+use mathlib.Core.Bool.{Bool, true, false, not, cond}
 use mathlib.Core.List.{List, [], _∷_, map}
 use native.Mathlib.Omega.{arith}
 use native.Mathlib.Decide.{decLt}
 use lib.Dec.{T, ltb}
 use lib.ListN.{length, take, drop, getD, set, drop-of-length-le}
-use lib.Seq.{take-all, drop-cons}
+use lib.Seq.{drop-cons}
 use Rattle.lists.specs.Lists.{all?, keep, indexOf}
 use Rattle.lists.proofs.Bools.{is-true}
 use Rattle.tasks.specs.declared.Task.{Task}
 use Rattle.tasks.specs.Tasks.{finish, live, freeSlot}
-use Rattle.slots.specs.declared.Findings.{Findings}
 use Rattle.slots.specs.Slots.{liveIn, slotSound}
 use Rattle.slots.specs.Survey.{Surveyed}
 use Rattle.slots.proofs.Passed.{isFree, Passed, begin, pass-any}

@@ -1,10 +1,9 @@
 -- Slots taken apart one after the other: a sound slot more. Assumes nothing.
-use Prim.Native.Nat.{ℕ, _+_, _%_, _≤_, _<_}
-use mathlib.Core.Path.{_≡_, refl, sym, ap, _∙_, subst}
-use mathlib.Core.Bool.{Bool, true, false, _&&_}
+use Prim.Native.Nat.{ℕ, _+_, _%_, _<_}
+use mathlib.Core.Path.{_≡_, refl, _∙_, subst}
+use mathlib.Core.Bool.{false, _&&_}
 use mathlib.Core.List.{List}
 use native.Mathlib.Omega.{arith}
-use native.Mathlib.Decide.{ℕ-discrete as decEq}
 use lib.Dec.{T, eqb, eqb→eq}
 use lib.ListN.{length, getD, set, length-set}
 use Rattle.lists.specs.Lists.{all?}
@@ -13,7 +12,7 @@ use Rattle.lists.proofs.Append.{stored}
 use Rattle.lists.proofs.Members.{all-pass, getD-in}
 use Rattle.tasks.specs.declared.Task.{Task}
 use Rattle.tasks.specs.Tasks.{finish, live, freeSlot, zeros}
-use Rattle.slots.specs.Slots.{taskSound, slotSound}
+use Rattle.slots.specs.Slots.{slotSound}
 use Rattle.slots.proofs.Soundness.{SoundTask, task-out}
 use Rattle.slots.proofs.Passed.{fits}
 use Rattle.apart.specs.Mirrors.{Mirrors}

@@ -1,9 +1,9 @@
 -- The slots taken apart, an array of numbers for each field, by slot: code-level definitions; no promise of a public call cites them. Assumes nothing.
 use Prim.Native.Nat.{ℕ, _+_, _≤_, _<_}
 use mathlib.Core.Path.{_≡_}
-use mathlib.Core.Bool.{Bool, false, cond, _&&_}
+use mathlib.Core.Bool.{false, cond}
 use mathlib.Core.List.{List}
-use lib.Dec.{T, leb, ltb}
+use lib.Dec.{T, leb}
 use lib.ListN.{length, getD}
 use Rattle.tasks.specs.declared.Task.{Task}
 use Rattle.tasks.specs.Tasks.{finish, live, freeSlot}

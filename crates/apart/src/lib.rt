@@ -57,7 +57,7 @@ fn lesser(x: usize, y: usize) -> usize
     if x < y { x } else { y }
 }
 
-// The live tasks in slot order, as `slots::survey` finds them in slots that are sound.
+// The live tasks in slot order, as `survey::survey` finds them in slots that are sound.
 pub fn gather<'a>(
     id: &'a [u32; 64],
     start: &'a [u32; 64],

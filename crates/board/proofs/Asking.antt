@@ -1,29 +1,27 @@
 -- DEMAND 3 about the call: what its answer and buffer give is every opening after the pair, once, in order; asking on reaches the end; Full takes the first. Assumes nothing.
-use Prim.Native.Nat.{ℕ, zero, suc, _+_, _*_, _/_, _≤_, _<_}
+use Prim.Native.Nat.{ℕ, zero, suc, _+_, _/_, _≤_}
 use mathlib.Core.Path.{_≡_, refl, sym, ap, _∙_}
 use mathlib.Core.Logic.{_⊎_, inl, inr}
-use mathlib.Core.Bool.{Bool, true, false, cond, not, _&&_}
-use mathlib.Core.Option.{Option, none, some}
+use mathlib.Core.Bool.{Bool, true, false, cond, not}
 use mathlib.Core.List.{List, [], _∷_, _++_, append-nil, List·Memᴰ·append-cases}
 use native.Mathlib.Omega.{arith}
-use borrow.Author.Tests.{le-ltb, ltb-true, ltb-false}
-use lib.Dec.{T, leb, ltb, le→leb}
+use borrow.Author.Tests.{le-ltb, ltb-false}
+use lib.Dec.{leb, ltb, le→leb}
 use lib.ListN.{length, take, drop, getD, length-take, length-drop, take-append-drop, length-append}
 use lib.Seq.{take-all}
-use Rattle.lists.specs.Lists.{_∈_, head?, lastOr, overFront}
+use Rattle.lists.specs.Lists.{_∈_, head?, lastOr}
 use Rattle.lists.proofs.Bools.{and-i, is-true}
 use Rattle.lists.proofs.Order.{Sorted}
 use Rattle.ways.specs.Ways.{pair}
 use Rattle.tasks.specs.declared.Submission.{Submission}
 use Rattle.tasks.specs.Numbers.{within, sizeFits, timeFits}
-use Rattle.tasks.proofs.Laws.{Between, within-in}
-use Rattle.planners.specs.Openings.{Place, ways, openings, pairWords, full}
+use Rattle.tasks.proofs.Laws.{within-in}
+use Rattle.planners.specs.Openings.{Place, openings, pairWords, full}
 use Rattle.planners.specs.Planners.{planned}
 use Rattle.planners.proofs.Openings.{Opening, Before, after-listed, listed-after, after-ordered, after-last, after-none}
 use Rattle.slots.proofs.Soundness.{sound-in}
 use Rattle.openings.proofs.Writing.{words-length}
 use Rattle.board.specs.declared.Board.{Board}
-use Rattle.board.specs.declared.Opened.{Opened}
 use Rattle.board.specs.Refusals.{refusal, liveOf, soundBoard, refusedOpenings, refusedSubmit}
 use Rattle.board.specs.Calls.{orRefused, taken, submitted, remaining, opened, openedBuffer}
 use Rattle.board.proofs.Refusals.{sound-passes, passed-over}

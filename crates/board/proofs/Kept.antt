@@ -2,36 +2,34 @@
 use Prim.Native.Nat.{ℕ, zero, suc, _+_, _≤_, _<_}
 use mathlib.Core.Path.{_≡_, refl, sym, ap, _∙_, subst}
 use mathlib.Core.Logic.{_⊎_, inl, inr}
-use mathlib.Core.Bool.{Bool, true, false, not, _&&_}
-use mathlib.Core.List.{List, [], _∷_, map}
+use mathlib.Core.Bool.{false, not, _&&_}
+use mathlib.Core.List.{[], _∷_, map}
 use mathlib.Core.Option.{Option, none, some}
 use native.Mathlib.Omega.{arith}
 use native.Mathlib.Decide.{decLe, decLt}
-use lib.Dec.{T, leb, ltb, eqb, leb→le, ltb→lt, nltb→le, nleb→lt, eqb→eq, eqb-refl, not-T, T-not}
+use lib.Dec.{T, leb, ltb, eqb, leb→le, ltb→lt, nltb→le, nleb→lt, eqb→eq, eqb-refl, T-not}
 use borrow.Author.Tests.{le-ltb}
-use lib.ListN.{length, getD, replicate, length-replicate, getD-replicate, List·getD-map}
+use lib.ListN.{length, getD, replicate, List·getD-map}
 use Rattle.lists.specs.Lists.{_∈_, keep, all?, pairwise?, indexOf}
 use Rattle.lists.proofs.Bools.{and-l, and-r, and-i, bool, not-not, is-true}
 use Rattle.lists.proofs.Members.{in-keep, none-pass, pass-some, getD-in}
 use Rattle.lists.proofs.Order.{sorted-at}
 use Rattle.lists.proofs.Append.{index-test, index-passes}
-use Rattle.ways.specs.Ways.{Pair}
 use Rattle.tasks.specs.declared.Task.{Task}
 use Rattle.tasks.specs.declared.Submission.{Submission}
 use Rattle.tasks.specs.Numbers.{within, deviceFits, sizeFits, timeFits}
 use Rattle.tasks.specs.Tasks.{finish, live, runningPhase, stamped, freeSlot, zeros, booked}
-use Rattle.tasks.proofs.Laws.{Between, within-out, Share}
+use Rattle.tasks.proofs.Laws.{Between, within-out}
 use Rattle.planners.specs.Openings.{Place}
 use Rattle.planners.specs.Planners.{planned}
 use Rattle.planners.proofs.Openings.{Opening}
 use Rattle.planners.proofs.Planners.{planned-opens}
-use Rattle.slots.specs.Slots.{slotSound, sound, named, known, runsNamed, withBooked, agedTo, allAgedTo, withoutNamed}
+use Rattle.slots.specs.Slots.{slotSound, sound, named, known, runsNamed, agedTo, allAgedTo, withoutNamed}
 use Rattle.slots.proofs.Soundness.{InPhase, running, waiting, SoundTask, Together, Sound, sound-out, sound-in}
 use Rattle.slots.proofs.Ageing.{stamped-live, stamped-phase, aged-free, aged-ended, aged-stands, aged-sound, aged-now, aged-twice}
 use Rattle.slots.proofs.Booking.{booked-sound, withdrawn-sound, booked-keeps, withdrawn-keeps, withdrawn-free}
 use Rattle.board.specs.declared.Board.{Board}
-use Rattle.board.specs.declared.Answer.{Answer}
-use Rattle.board.specs.declared.Answer.the-variants.{Rejected, Placed, Refused}
+use Rattle.board.specs.declared.Answer.the-variants.{Rejected, Refused}
 use Rattle.board.specs.declared.Submitted.{Submitted}
 use Rattle.board.specs.declared.Clocked.{Clocked}
 use Rattle.board.specs.declared.Withdrawn.{Withdrawn}

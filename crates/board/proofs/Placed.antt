@@ -1,6 +1,6 @@
 -- What a submission's answer means: a place is an opening, Full's is the first, a rejection by Full means that there is none. Assumes nothing.
 use Prim.Native.Nat.{ℕ, zero, suc, _+_, _≤_, _<_}
-use mathlib.Core.Path.{_≡_, refl, sym, ap, _∙_, subst}
+use mathlib.Core.Path.{_≡_, refl, sym, ap, _∙_}
 use mathlib.Core.Logic.{_⊎_}
 use mathlib.Core.Bool.{not}
 use mathlib.Core.Option.{Option, none, some}
@@ -9,7 +9,7 @@ use Rattle.tasks.specs.Tasks.{live}
 use native.Mathlib.Omega.{arith}
 use Rattle.ways.specs.Ways.{pair}
 use Rattle.tasks.specs.declared.Submission.{Submission}
-use Rattle.planners.specs.Openings.{Place, full}
+use Rattle.planners.specs.Openings.{Place}
 use Rattle.planners.specs.Planners.{planned}
 use Rattle.planners.proofs.Openings.{Opening, Before, full-first, full-rejects}
 use Rattle.planners.proofs.Planners.{planned-opens}
@@ -17,7 +17,7 @@ use Rattle.board.specs.declared.Board.{Board}
 use Rattle.board.specs.declared.Answer.{Answer}
 use Rattle.board.specs.declared.Answer.the-variants.{Rejected, Placed, Refused}
 use Rattle.board.specs.Refusals.{liveOf, refusedSubmit}
-use Rattle.board.specs.Calls.{taken, answered, submitted}
+use Rattle.board.specs.Calls.{taken, submitted}
 use Rattle.board.proofs.Kept.{Accepted, submit-accepted, refused-submit-same}
 use Rattle.board.specs.Untested.{submittedBooked}
 use Rattle.board.proofs.Submit.{accepted-answered, free-inside, booked-there}

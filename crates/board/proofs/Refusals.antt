@@ -1,9 +1,8 @@
 -- The refusal is the first number whose test holds; what a call answers after test 1. Assumes nothing.
-use Prim.Native.Nat.{ℕ, zero, suc}
-use mathlib.Core.Path.{_≡_, refl, sym, ap, _∙_}
+use Prim.Native.Nat.{ℕ}
+use mathlib.Core.Path.{_≡_, ap}
 use mathlib.Core.Bool.{Bool, true, false, not}
-use mathlib.Core.List.{List, [], _∷_}
-use native.Mathlib.Omega.{arith}
+use mathlib.Core.List.{List, _∷_}
 use lib.Dec.{T}
 use Rattle.board.specs.declared.Board.{Board}
 use Rattle.board.specs.Refusals.{Test, _when_, refusal, soundBoard, unsound}

@@ -6,10 +6,8 @@ use mathlib.Core.Bool.{Bool, true, false, not, cond, _&&_, _||_}
 use mathlib.Core.Option.{Option, none, some}
 use mathlib.Core.List.{List, [], _∷_, map}
 use native.Mathlib.Omega.{arith}
-use native.Mathlib.Decide.{ℕ-discrete as decEq}
-use lib.Dec.{T, leb, ltb, eqb, ltb→lt, lt→ltb, not-T, T-not}
-use lib.ListN.{length, take, getD, set, length-take, length-map}
-use borrow.Author.Tests.{ltb-true}
+use lib.Dec.{T, leb, ltb, eqb, ltb→lt}
+use lib.ListN.{length, take, set, length-take, length-map}
 use Rattle.lists.specs.Lists.{_∈_, keep, some?, all?, indexOf}
 use Rattle.lists.proofs.Bools.{bool, not-not}
 use Rattle.lists.proofs.Members.{none-pass, keep-all, length-keep}
@@ -17,26 +15,24 @@ use Rattle.lists.proofs.Append.{index-test, put-index, some-map}
 use Rattle.ways.specs.Ways.{pair}
 use Rattle.tasks.specs.declared.Task.{Task}
 use Rattle.tasks.specs.declared.Submission.{Submission}
-use Rattle.tasks.specs.Numbers.{sizeFits, timeFits}
-use Rattle.tasks.specs.Tasks.{finish, live, freeSlot, stamped, booked, meets}
+use Rattle.tasks.specs.Tasks.{finish, live, stamped, booked, meets}
 use Rattle.planners.specs.declared.Found.{Found}
 use Rattle.planners.specs.declared.Found.the-variants.{Nothing, At}
 use Rattle.planners.specs.Openings.{Place, full, ways}
 use Rattle.planners.specs.Planners.{reference, horizon, stuffing, planned, clearOfWaiting, candidates, releasedEdges, visited}
 use Rattle.planners.specs.Lent.{foundOf, tasksOf, OnDevice, asked}
-use Rattle.planners.proofs.Openings.{Opening}
 use Rattle.planners.proofs.Planners.{planned-opens}
-use Rattle.planners.proofs.Bare.{bare, lent-tasks, stuffing-bare, reference-bare, horizon-bare, full-bare, reference-is}
+use Rattle.planners.proofs.Bare.{bare, lent-tasks, stuffing-bare, reference-bare, horizon-bare, full-bare}
 use Rattle.slots.specs.declared.Findings.{Findings}
 use Rattle.slots.specs.Slots.{liveIn, slotSound, sound, named, known, withBooked}
 use Rattle.slots.specs.Survey.{Surveyed}
-use Rattle.slots.proofs.Soundness.{SoundTask, Sound, sound-out, each-sound}
-use Rattle.slots.proofs.Pairs.{task, each, start-at, finish-at, left-at, past-at}
+use Rattle.slots.proofs.Soundness.{sound-out, each-sound}
+use Rattle.slots.proofs.Pairs.{each, start-at, finish-at, left-at, past-at}
 use Rattle.board.specs.declared.Board.{Board}
 use Rattle.board.specs.declared.Answer.the-variants.{Rejected, Placed, Refused}
 use Rattle.board.specs.declared.Submitted.{Submitted}
 use Rattle.board.specs.Answers.{told}
-use Rattle.board.specs.Refusals.{Test, _when_, refusal, liveOf, soundBoard, unsound, badSize, badTime, tooLate, refusedSubmit}
+use Rattle.board.specs.Refusals.{Test, _when_, refusal, liveOf, soundBoard, badSize, badTime, tooLate, refusedSubmit}
 use Rattle.board.specs.Calls.{orRefused, withTasks, withTask, taken, answered, submitted}
 use Rattle.board.specs.Untested.{submittedBooked}
 use Rattle.board.proofs.Refusals.{sound-passes, unsound-refused}
@@ -174,13 +170,6 @@ unfolding taken withTask withBooked
 booked-there b a c t free e =
     ap (λ ks. record { answer = Placed c t (t + a .e); board = withTasks b ks })
     (put-index (λ k. not (live k)) (booked (b .now) a t c) (b .tasks) ∙ ap (λ i. set (b .tasks) i (booked (b .now) a t c)) (sym e))
-
-pub is-three : (n : ℕ) → n ≤ 3 → (n ≡ 0 → ⊥) → (n ≡ 1 → ⊥) → (n ≡ 2 → ⊥) → n ≡ 3
-is-three zero h a b c = absurd (a refl)
-is-three (suc zero) h a b c = absurd (b refl)
-is-three (suc (suc zero)) h a b c = absurd (c refl)
-is-three (suc (suc (suc zero))) h a b c = refl
-is-three (suc (suc (suc (suc n)))) h a b c = absurd (omega arith)
 
 -- THE PROMISE: the answer, the board, and document 01's number and values
 pub promised : (r q : Submitted) → r ≡ q → (r ≡ q) × (told (r .answer) ≡ told (q .answer))

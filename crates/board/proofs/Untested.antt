@@ -1,27 +1,25 @@
 -- A sound board: the call without test 1 answers as the call does. Assumes nothing.
-use Prim.Native.Nat.{ℕ, suc, _+_, _≤_, _<_}
+use Prim.Native.Nat.{ℕ, _<_}
 use mathlib.Core.Path.{_≡_, refl, sym, ap, _∙_, subst}
 use mathlib.Core.Logic.{_⊎_, inl, inr}
 use mathlib.Core.Bool.{Bool, true, false, not, cond, _&&_}
 use mathlib.Core.List.{List, [], _∷_}
-use native.Mathlib.Omega.{arith}
 use lib.Dec.{T, ltb, eqb, eqb→eq}
 use borrow.Author.Tests.{ltb-true}
 use lib.ListN.{length, getD, set}
-use Rattle.lists.specs.Lists.{_∈_, some?, keep, indexOf, putFirst}
-use Rattle.lists.proofs.Bools.{and-l, and-r, and-i, is-true, same-bool}
-use Rattle.lists.proofs.Members.{Passing, some-pass, pass-some, getD-in, in-keep}
+use Rattle.lists.specs.Lists.{_∈_, some?, indexOf}
+use Rattle.lists.proofs.Bools.{and-l, and-r, and-i, same-bool}
+use Rattle.lists.proofs.Members.{some-pass, pass-some, getD-in, in-keep}
 use Rattle.lists.proofs.Order.{sorted-compare}
 use Rattle.lists.proofs.Append.{index-test, put-index, index-passes}
 use Rattle.tasks.specs.declared.Task.{Task}
 use Rattle.tasks.specs.Tasks.{live, runningPhase, freeSlot}
-use Rattle.slots.specs.Slots.{liveIn, sound, named, known, runsNamed, withoutNamed}
+use Rattle.slots.specs.Slots.{named, known, runsNamed, withoutNamed}
 use Rattle.slots.proofs.Soundness.{Sound, Together, sound-out}
 use Rattle.board.specs.declared.Board.{Board}
-use Rattle.board.specs.declared.Clocked.{Clocked}
 use Rattle.board.specs.declared.Withdrawn.{Withdrawn}
-use Rattle.board.specs.Refusals.{_when_, refusal, soundBoard, unsound, passed, beyond, refusedInstant, refusedWithdraw}
-use Rattle.board.specs.Calls.{orRefused, withTasks, boardAt, clocked, withdrawn}
+use Rattle.board.specs.Refusals.{_when_, refusal, soundBoard, passed, beyond, refusedInstant, refusedWithdraw}
+use Rattle.board.specs.Calls.{orRefused, withTasks, clocked, withdrawn}
 use Rattle.board.specs.Untested.{clockedUntested, withdrawnAt, withdrawnUntested}
 use Rattle.board.proofs.Refusals.{refused-by, passed-over, sound-passes, unsound-refused}
 

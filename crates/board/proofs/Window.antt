@@ -1,10 +1,10 @@
 -- A request for openings to a sound board: what was surveyed serves the refusals and the list. Assumes nothing.
 use Prim.Native.Nat.{ℕ, zero, suc, _+_, _/_, _≤_, _<_}
 use mathlib.Core.Path.{_≡_, refl, sym, ap, _∙_}
-use mathlib.Core.Bool.{true, false, not}
+use mathlib.Core.Bool.{true, false}
 use mathlib.Core.List.{List, [], _∷_}
 use native.Mathlib.Omega.{arith}
-use lib.Dec.{T, leb, ltb, leb→le, nltb→le}
+use lib.Dec.{leb, leb→le, nltb→le}
 use lib.ListN.{length, take}
 use Rattle.lists.specs.Lists.{overFront}
 use Rattle.lists.proofs.Bools.{and-l, and-r, not-not}
@@ -13,20 +13,18 @@ use Rattle.tasks.specs.declared.Submission.{Submission}
 use Rattle.tasks.specs.Numbers.{within, sizeFits, timeFits}
 use Rattle.tasks.proofs.Laws.{Between, within-out}
 use Rattle.tasks.specs.Tasks.{meets, stamped, booked}
-use Rattle.planners.specs.Openings.{Place, ways, pairWords}
+use Rattle.planners.specs.Openings.{ways, pairWords}
 use Rattle.planners.specs.Lent.{tasksOf, OnDevice, asked}
-use Rattle.planners.proofs.Bare.{bare, after-bare}
+use Rattle.planners.proofs.Bare.{after-bare}
 use Rattle.slots.specs.declared.Findings.{Findings}
 use Rattle.slots.specs.Survey.{Surveyed}
-use Rattle.slots.proofs.Soundness.{sound-out}
 use Rattle.openings.specs.declared.Filled.{Filled}
 use Rattle.openings.specs.Filled.{filledOf}
 use Rattle.board.specs.declared.Board.{Board}
 use Rattle.board.specs.declared.Opened.{Opened}
-use Rattle.board.specs.Refusals.{Test, _when_, refusal, liveOf, soundBoard, badSize, badTime, tooLate, refusedOpenings}
+use Rattle.board.specs.Refusals.{Test, refusal, liveOf, soundBoard, badSize, badTime, tooLate, refusedOpenings}
 use Rattle.board.specs.Calls.{orRefused, remaining, opened, openedBuffer}
 use Rattle.board.proofs.Refusals.{none-holds, sound-passes, unsound-refused}
-use Rattle.board.proofs.Kept.{SoundBoard}
 use Rattle.board.proofs.Submit.{on-device, lent}
 
 -- the tests after test 1

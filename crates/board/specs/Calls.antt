@@ -1,12 +1,12 @@
 -- What each call of document 01 answers, the board that follows, and what a lent buffer holds afterwards. Assumes nothing.
 use Prim.Native.Nat.{ℕ, zero, suc, _+_, _/_}
-use mathlib.Core.Bool.{Bool, false}
-use mathlib.Core.List.{List, [], _∷_}
+use mathlib.Core.Bool.{false}
+use mathlib.Core.List.{List}
 use mathlib.Core.Option.{Option, none, some}
 use lib.Dec.{ltb}
 use lib.ListN.{length, take, replicate}
 use Rattle.lists.specs.Lists.{overFront}
-use Rattle.ways.specs.Ways.{Pair, pair, openingsAfter}
+use Rattle.ways.specs.Ways.{pair, openingsAfter}
 use Rattle.tasks.specs.declared.Task.{Task}
 use Rattle.tasks.specs.declared.Submission.{Submission}
 use Rattle.tasks.specs.Numbers.{mostTasks}
@@ -16,7 +16,6 @@ use Rattle.planners.specs.Planners.{planned}
 use Rattle.slots.specs.Slots.{withBooked, allAgedTo, withoutNamed}
 use Rattle.lookups.specs.Lookups.{stripWords, busyColumns}
 use Rattle.board.specs.declared.Board.{Board}
-use Rattle.board.specs.declared.Answer.{Answer}
 use Rattle.board.specs.declared.Answer.the-variants.{Rejected, Placed, Refused}
 use Rattle.board.specs.declared.Created.{Created}
 use Rattle.board.specs.declared.Submitted.{Submitted}

@@ -1,6 +1,6 @@
 -- The refusals of each call, in document 01's order. Assumes nothing.
-use Prim.Native.Nat.{ℕ, zero, suc, _+_, _*_}
-use mathlib.Core.Bool.{Bool, true, false, not}
+use Prim.Native.Nat.{ℕ, _+_, _*_}
+use mathlib.Core.Bool.{Bool, not}
 use mathlib.Core.List.{List, [], _∷_}
 use lib.Dec.{leb, ltb, eqb}
 use lib.ListN.{length}
@@ -10,21 +10,8 @@ use Rattle.tasks.specs.Numbers.{mostTasks, lastInstant, deviceFits, sizeFits, t
 use Rattle.slots.specs.Slots.{liveIn, sound, known, runsNamed}
 use Rattle.lookups.specs.Lookups.{Strip, horizonList}
 use Rattle.board.specs.declared.Board.{Board}
-
--- the test of one refusal number
-pub record Test : Type 0 where
-  pub number : ℕ
-  pub holds : Bool
-
--- a row of "Answer numbers": the number, "given exactly when"
-abbrev pub _when_ : ℕ → Bool → Test
-_when_ n t = record { number = n; holds = t }
-
-infix 5 _when_
--- "Several at once: the lowest number wins": the first whose test holds; 0 where none does
-unfoldable pub refusal : List Test → ℕ
-refusal [] = 0
-refusal (t ∷ ts) = elim (t .holds) [ true ↦ t .number | false ↦ refusal ts ]
+pub use Rattle.refusals.specs.Refusals.{Test, _when_}
+unfoldable pub use Rattle.refusals.specs.Refusals.{refusal}
 
 -- the live tasks of a board, by slot
 abbrev pub liveOf : Board → List Task

@@ -10,7 +10,6 @@ use Rattle.tasks.specs.Numbers.{mostTasks}
 use Rattle.tasks.specs.declared.Task.{Task}
 use Rattle.tasks.specs.declared.Submission.{Submission}
 use Rattle.tasks.specs.Tasks.{runningPhase, freeSlot, booked}
-use Rattle.slots.specs.declared.Findings.{Findings}
 use Rattle.slots.specs.Slots.{named, sound}
 use Rattle.slots.specs.Survey.{Surveyed}
 use Rattle.board.specs.declared.Board.{Board}

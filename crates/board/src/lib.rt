@@ -1,22 +1,17 @@
 // The board of document 01, its calls and what they answer. The calls test what they are handed and put the answer together;
 // the work is done in the crates below.
 ghost use mathlib.Core.Path.{_≡_};
-ghost use mathlib.Core.Bool.{Bool, true, not};
-ghost use mathlib.Core.List.{List, [], _∷_};
+ghost use mathlib.Core.Bool.{Bool, true};
+ghost use mathlib.Core.List.{List};
 ghost use Prim.Native.Nat.{ℕ, _+_, _≤_, _<_};
-ghost use lib.Dec.{leb, ltb, eqb};
-ghost use lib.ListN.{length, set};
-ghost use Rattle.tasks.specs.Numbers.{sizeFits, timeFits};
+ghost use lib.ListN.{length};
 ghost use Rattle.tasks.specs.declared.Task.{Task};
-ghost use Rattle.tasks.specs.Tasks.{booked};
 ghost use Rattle.slots.specs.Slots.{sound};
 ghost use Rattle.slots.specs.Survey.{Surveyed};
-ghost use Rattle.planners.specs.Planners.{planned};
-ghost use Rattle.planners.specs.Lent.{foundOf, tasksOf, OnDevice, asked};
 ghost use Rattle.board.specs.declared.Answer.the-variants.{Placed};
 ghost use Rattle.board.specs.Answers.{told};
-ghost use Rattle.board.specs.Refusals.{_when_, refusal, soundBoard};
-ghost use Rattle.board.specs.Calls.{withTasks, freshBoard, created, submitted, clocked, withdrawn, opened, openedBuffer, listed, listedBuffer, counted};
+ghost use Rattle.board.specs.Refusals.{soundBoard};
+ghost use Rattle.board.specs.Calls.{freshBoard, created, submitted, clocked, withdrawn, opened, openedBuffer, listed, listedBuffer, counted};
 ghost use Rattle.board.specs.Untested.{clockedUntested, withdrawnUntested, submittedBooked, boardOf, Standing};
 use planners::Found;
 use tasks::Submission;
@@ -84,101 +79,6 @@ pub struct Counted {
     pub board: Board,
 }
 
-// The refusals of a submission after 1: 3 to 9, the lowest number first, 0 where none holds. `known`: the id is live already.
-fn refuse(
-    planner: u8,
-    columns: u16,
-    rows: u16,
-    clock: u32,
-    a: Submission,
-    known: bool,
-    count: usize,
-) -> u8
-    ensures { λ r. ⌜ r ≡ refusal ((3 when ltb 3 planner) ∷ (4 when eqb (a .id) 0) ∷ (5 when not (sizeFits columns rows (a .w) (a .h))) ∷ (6 when not (timeFits (a .e) (a .d))) ∷ (7 when known) ∷ (8 when ltb (a .d) (clock + a .e)) ∷ (9 when leb 64 count) ∷ []) ⌝ }
-{
-    if 3 < planner {
-        return 3;
-    }
-    if a.id == 0 {
-        return 4;
-    }
-    if !tasks::size_fits(columns, rows, a.w, a.h) {
-        return 5;
-    }
-    if !tasks::time_fits(a.e, a.d) {
-        return 6;
-    }
-    if known {
-        return 7;
-    }
-    if (a.d as u64) < clock as u64 + a.e as u64 {
-        return 8;
-    }
-    if 64 <= count {
-        return 9;
-    }
-    0
-}
-
-// The refusals of an instant after 1: 11 and 12, 0 where neither holds.
-fn refuse_instant(clock: u32, instant: u32) -> u8
-    ensures { λ r. ⌜ r ≡ refusal ((11 when ltb instant clock) ∷ (12 when ltb 2000000000 instant) ∷ []) ⌝ }
-{
-    if instant < clock {
-        return 11;
-    }
-    if instant > 2_000_000_000 {
-        return 12;
-    }
-    0
-}
-
-// The refusals of a request for openings after 1: 5, 6, 8. The id is not read.
-fn refuse_openings(columns: u16, rows: u16, clock: u32, a: Submission) -> u8
-    ensures { λ r. ⌜ r ≡ refusal ((5 when not (sizeFits columns rows (a .w) (a .h))) ∷ (6 when not (timeFits (a .e) (a .d))) ∷ (8 when ltb (a .d) (clock + a .e)) ∷ []) ⌝ }
-{
-    if !tasks::size_fits(columns, rows, a.w, a.h) {
-        return 5;
-    }
-    if !tasks::time_fits(a.e, a.d) {
-        return 6;
-    }
-    if (a.d as u64) < clock as u64 + a.e as u64 {
-        return 8;
-    }
-    0
-}
-
-// The place that the named planner finds among the live tasks. Reference is Stuffing with no time after now.
-fn place<'a>(
-    planner: u8,
-    start: &'a [u32; 64],
-    finish: &'a [u32; 64],
-    left: &'a [u32; 64],
-    past: &'a [u32; 64],
-    n: usize,
-    width: u32,
-    clock: u32,
-    w: u32,
-    e: u32,
-    d: u32,
-) -> Found
-    requires { ⌜ OnDevice width n (now start) (now finish) (now left) (now past) ⌝ }
-    requires { ⌜ (planner ≤ 3) × (1 ≤ w) × (w ≤ width) × (1 ≤ e) × (clock + e ≤ d) × (d ≤ 2000000000) ⌝ }
-    ensures { λ r. ⌜ r ≡ foundOf (planned width clock (tasksOf n (now (start .entry)) (now (finish .entry)) (now (left .entry)) (now (past .entry))) (asked w e d) planner) ⌝ }
-{
-    if planner == 0 {
-        return stuffing::stuffing(start, finish, left, past, n, width, clock, w, e, clock + e);
-    }
-    if planner == 1 {
-        return horizon::horizon(start, finish, left, past, n, width, clock, w, e, d);
-    }
-    if planner == 2 {
-        return stuffing::stuffing(start, finish, left, past, n, width, clock, w, e, d);
-    }
-    full::full(start, finish, left, past, n, width, clock, w, e, d)
-}
-
 // What a task submitted to a sound board is answered, its live tasks lent: 3 to 9, a place, or the rejection.
 pub fn decide<'a>(
     id: &'a [u32; 64],
@@ -197,11 +97,11 @@ pub fn decide<'a>(
     ensures { λ r. ⌜ ((ks : List Task) (free : ℕ) (well : Bool) → Surveyed columns rows clock ks (record { id = now (id .entry); start = now (start .entry); finish = now (finish .entry); left = now (left .entry); past = now (past .entry); count = count; free = free; sound = well }) → sound columns rows clock ks ≡ true → r ≡ submitted (boardOf ks clock columns rows) planner a .answer) ⌝ }
 {
     let known = apart::among(id, count, a.id);
-    let number = refuse(planner, columns, rows, clock, a, known, count);
+    let number = refusals::refuse(planner, columns, rows, clock, a, known, count);
     if 0 < number {
         return Answer::Refused(number);
     }
-    let found = place(
+    let found = place::place(
         planner,
         start,
         finish,
@@ -265,7 +165,7 @@ impl Board {
         ensures { λ r. ⌜ r ≡ soundBoard self ⌝ }
     {
         let tasks = self.tasks;
-        slots::is_sound(self.columns, self.rows, self.now, tasks)
+        pairs::is_sound(self.columns, self.rows, self.now, tasks)
     }
 
     // A task submitted to a planner: 1, 3 to 9; a place, or the rejection.
@@ -274,8 +174,8 @@ impl Board {
         ensures { λ r. ⌜ told (r .answer) ≡ told (submitted self planner a .answer) ⌝ }
     {
         let tasks = self.tasks;
-        let v = slots::survey(self.columns, self.rows, self.now, tasks);
-        if !slots::found_sound(self.columns, self.rows, self.now, v) {
+        let v = survey::survey(self.columns, self.rows, self.now, tasks);
+        if !pairs::found_sound(self.columns, self.rows, self.now, v) {
             return Submitted {
                 answer: Answer::Refused(1),
                 board: self,
@@ -416,8 +316,8 @@ impl Board {
         ensures { λ r. ⌜ now (buffer .exit) ≡ openedBuffer self a start column (now (buffer .entry)) ⌝ }
     {
         let tasks = self.tasks;
-        let v = slots::survey(self.columns, self.rows, self.now, tasks);
-        if !slots::found_sound(self.columns, self.rows, self.now, v) {
+        let v = survey::survey(self.columns, self.rows, self.now, tasks);
+        if !pairs::found_sound(self.columns, self.rows, self.now, v) {
             return Opened {
                 number: 1,
                 count: 0,
@@ -425,7 +325,7 @@ impl Board {
                 board: self,
             };
         }
-        let number = refuse_openings(self.columns, self.rows, self.now, a);
+        let number = refusals::refuse_openings(self.columns, self.rows, self.now, a);
         if 0 < number {
             return Opened {
                 number: number,
@@ -463,8 +363,8 @@ impl Board {
         ensures { λ _. ⌜ now (buffer .exit) ≡ listedBuffer self (now (buffer .entry)) ⌝ }
     {
         let tasks = self.tasks;
-        let v = slots::survey(self.columns, self.rows, self.now, tasks);
-        if !slots::found_sound(self.columns, self.rows, self.now, v) {
+        let v = survey::survey(self.columns, self.rows, self.now, tasks);
+        if !pairs::found_sound(self.columns, self.rows, self.now, v) {
             return Listed {
                 number: 1,
                 count: 0,
@@ -501,15 +401,15 @@ impl Board {
         ensures { λ r. ⌜ r ≡ counted self instant ⌝ }
     {
         let tasks = self.tasks;
-        let v = slots::survey(self.columns, self.rows, self.now, tasks);
-        if !slots::found_sound(self.columns, self.rows, self.now, v) {
+        let v = survey::survey(self.columns, self.rows, self.now, tasks);
+        if !pairs::found_sound(self.columns, self.rows, self.now, v) {
             return Counted {
                 number: 1,
                 count: 0,
                 board: self,
             };
         }
-        let number = refuse_instant(self.now, instant);
+        let number = refusals::refuse_instant(self.now, instant);
         if 0 < number {
             return Counted {
                 number: number,

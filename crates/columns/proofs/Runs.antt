@@ -1,12 +1,12 @@
 -- The runs are exactly the longest runs of adjacent columns that pass, from left to right. Assumes nothing.
 use Prim.Native.Nat.{ℕ, zero, suc, _+_, _-_, _≤_, _<_}
-use mathlib.Core.Path.{_≡_, refl, sym, ap, _∙_, subst}
+use mathlib.Core.Path.{_≡_, refl, sym, ap, subst}
 use mathlib.Core.Logic.{_⊎_, inl, inr}
-use mathlib.Core.Bool.{Bool, true, false, not, cond}
+use mathlib.Core.Bool.{Bool, true, false, cond}
 use mathlib.Core.List.{List, [], _∷_, List·Memᴰ·head as here, List·Memᴰ·tail as there, List·Memᴰ·cases-cons as cases, List·Memᴰ·not-nil as nowhere}
 use native.Mathlib.Omega.{arith}
-use native.Mathlib.Decide.{decLe, decLt, ℕ-discrete as decEq}
-use lib.Dec.{T, eqb, eqb→eq, not-T, T-not}
+use native.Mathlib.Decide.{decLt, ℕ-discrete as decEq}
+use lib.Dec.{T, eqb, eqb→eq, T-not}
 use borrow.Author.Tests.{eqb-true, eqb-false}
 use Rattle.lists.specs.Lists.{_∈_, range}
 use Rattle.lists.proofs.Order.{Sorted, empty, next, Sorted·head, Sorted·tail, sorted-compare}

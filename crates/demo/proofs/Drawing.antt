@@ -1,8 +1,7 @@
 -- A row of the picture, one mark more each turn. Assumes nothing.
-use Prim.Native.Nat.{ℕ, zero, suc, _+_}
+use Prim.Native.Nat.{ℕ, _+_}
 use mathlib.Core.Path.{_≡_, refl, sym, ap, _∙_}
-use mathlib.Core.List.{List, [], _∷_, _++_, map, map-append}
-use native.Mathlib.Omega.{arith}
+use mathlib.Core.List.{List, [], _∷_, map, map-append}
 use lib.ListN.{length, set, length-map}
 use lib.Seq.{sets}
 use Rattle.lists.specs.Lists.{range}

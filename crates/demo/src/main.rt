@@ -1,7 +1,6 @@
 // The demonstration: the seven tasks of Table 1 of source document 003, played on its device of 10 x 6 under each planner, with a
 // picture of what each did.
 ghost use mathlib.Core.Path.{_≡_};
-ghost use mathlib.Core.List.{map};
 ghost use Prim.Native.Nat.{_+_, _≤_};
 ghost use lib.ListN.{length};
 ghost use lib.Seq.{sets};

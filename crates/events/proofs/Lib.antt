@@ -1,4 +1,3 @@
-pub mod Fields
 pub mod Found
 pub mod Writing
 pub mod Told

@@ -1,31 +1,18 @@
 -- Event records: the bytes of an event, what reading a list of bytes gives, the writer's buffer afterwards. Assumes nothing.
-use Prim.Native.Nat.{ℕ, zero, suc, _+_, _*_, _/_, _%_}
-use mathlib.Core.Bool.{Bool, cond}
+use Prim.Native.Nat.{ℕ, suc}
+use mathlib.Core.Bool.{cond}
 use mathlib.Core.List.{List, [], _∷_, _++_}
 use lib.Dec.{leb, ltb, eqb}
-use lib.ListN.{length, take, drop}
+use lib.ListN.{length}
 use Rattle.lists.specs.Lists.{overFront}
-use Rattle.tasks.specs.declared.Submission.{Submission}
 use Rattle.events.specs.declared.Event.{Event}
 use Rattle.events.specs.declared.Event.the-variants.{NewBoard, Submit, Clock, Withdraw}
 use Rattle.events.specs.declared.Reading.{Reading}
 use Rattle.events.specs.declared.Reading.the-variants.{End, Got, CutShort, Unknown}
 use Rattle.events.specs.declared.Written.{Written}
 use Rattle.events.specs.declared.Written.the-variants.{NoRoom, Length}
-
--- "numbers little-endian": the n bytes of a number
-unfoldable pub bytesOf : ℕ → ℕ → List ℕ
-bytesOf zero x = []
-bytesOf (suc n) x = (x % 256) ∷ bytesOf n (x / 256)
-
--- the number of some bytes
-unfoldable pub numberOf : List ℕ → ℕ
-numberOf [] = 0
-numberOf (b ∷ bs) = b + 256 * numberOf bs
-
--- the number of the n bytes at a place of the body
-abbrev pub field : ℕ → ℕ → List ℕ → ℕ
-field at n body = numberOf (take n (drop at body))
+unfoldable pub use Rattle.fields.specs.Fields.{bytesOf, numberOf}
+pub use Rattle.fields.specs.Fields.{field}
 
 -- "Kind": 1 new board, 2 submit, 3 clock, 4 withdraw
 unfoldable pub kindOf : Event → ℕ

@@ -1,6 +1,7 @@
 -- What the leaves of Full promise of the columns of an instant: code-level definitions; no promise of a public call cites them. Assumes nothing.
 use Prim.Native.Nat.{ℕ, _+_, _*_, _≤_, _<_}
 use mathlib.Core.Path.{_≡_}
+use mathlib.Core.Logic.{_⊎_}
 use mathlib.Core.Bool.{Bool, false, _&&_, _||_}
 use mathlib.Core.List.{List}
 use lib.Dec.{leb, ltb}
@@ -46,10 +47,15 @@ pub record FirstFree (words : List ℕ) (from w r : ℕ) : Type 0 where
   pub clear : 0 < r → Clear words w r
   pub least : (c : ℕ) → from < c → (0 < r → c < r) → Clear words w c → ⊥
 
--- r comes after t, and no finish of the first n lies between
+-- no finish: a number past every one
+abbrev pub none : ℕ
+none = 4294967295
+
+-- r comes after t, no finish of the first n lies between, and r is one of them or none
 pub record NextFinish (f : List ℕ) (n t r : ℕ) : Type 0 where
   pub after : t < r
   pub least : (i : ℕ) → i < n → t < getD f i 0 → r ≤ getD f i 0
+  pub one : (r ≡ none) ⊎ ((i : ℕ) × (i < n) × (getD f i 0 ≡ r))
 
 -- until r, r not included, a stay of e ticks meets the tasks that it meets from t on: none of the first n finishes, none comes into it
 pub record Unchanged (s f : List ℕ) (n t e r : ℕ) : Type 0 where

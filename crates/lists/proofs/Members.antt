@@ -2,15 +2,15 @@
 use Prim.Native.Nat.{ℕ, zero, suc, _+_, _≤_, _<_, max}
 use mathlib.Core.Path.{_≡_, refl, sym, ap, _∙_, subst}
 use mathlib.Core.Logic.{_⊎_, inl, inr}
-use mathlib.Core.Bool.{Bool, true, false, not, cond, _&&_, _||_}
-use mathlib.Core.Option.{Option, none, some}
-use mathlib.Core.List.{List, [], _∷_, _++_, map, List·Memᴰ·head as here, List·Memᴰ·tail as there, List·Memᴰ·cases-cons as cases, List·Memᴰ·not-nil as nowhere, Memᴰ·append-left, Memᴰ·append-right, List·Memᴰ·append-cases}
+use mathlib.Core.Bool.{Bool, true, false, not, cond, _||_}
+use mathlib.Core.Option.{none, some}
+use mathlib.Core.List.{List, [], _∷_, map, List·Memᴰ·head as here, List·Memᴰ·tail as there, List·Memᴰ·cases-cons as cases, List·Memᴰ·not-nil as nowhere, Memᴰ·append-left, Memᴰ·append-right, List·Memᴰ·append-cases}
 use native.Mathlib.Omega.{arith}
 use native.Mathlib.Decide.{ℕ-discrete as decEq}
-use lib.Dec.{T, leb, ltb, eqb, not-T, T-not}
+use lib.Dec.{T, leb, ltb, eqb, T-not}
 use lib.ListN.{length, getD}
-use borrow.Author.Tests.{ltb-true, ltb-false, leb-true, leb-false, eqb-true, eqb-false}
-use Rattle.lists.specs.Lists.{_∈_, keep, some?, all?, head?, orElse, firstOf, putFirst, insertBy, sortBy, range, each, highest, addTo, rising}
+use borrow.Author.Tests.{eqb-true}
+use Rattle.lists.specs.Lists.{_∈_, keep, some?, all?, head?, insertBy, sortBy, range, each, highest, addTo, rising}
 use Rattle.lists.proofs.Bools.{and-l, and-r, and-i, is-true, is-false, bool}
 
 module _ {A : Type 0} where

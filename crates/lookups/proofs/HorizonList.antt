@@ -1,18 +1,17 @@
 -- The horizon list has just the longest runs of columns with equal release, by release and then column, and parts the device. Assumes nothing.
-use Prim.Native.Nat.{ℕ, zero, suc, _+_, _-_, _≤_, _<_}
+use Prim.Native.Nat.{ℕ, suc, _+_, _-_, _≤_, _<_}
 use mathlib.Core.Path.{_≡_, refl, sym, ap, _∙_, subst}
 use mathlib.Core.Logic.{_⊎_, inl, inr}
-use mathlib.Core.Bool.{Bool, true, false}
-use mathlib.Core.List.{List, [], _∷_, map, List·Memᴰ·head as here, List·Memᴰ·tail as there}
+use mathlib.Core.Bool.{Bool}
+use mathlib.Core.List.{List, map}
 use native.Mathlib.Omega.{arith}
-use native.Mathlib.Decide.{decLt}
 use lib.Dec.{T, eqb, eqb→eq, eqb-refl}
-use Rattle.lists.specs.Lists.{_∈_, range, each, rising}
-use Rattle.lists.proofs.Members.{each-in, in-each, map-in, in-map, in-range, rising-in, in-rising}
+use Rattle.lists.specs.Lists.{_∈_, rising}
+use Rattle.lists.proofs.Members.{each-in, in-each, map-in, in-map, in-range, in-rising}
 use Rattle.lists.proofs.Order.{Sorted, sorted-map, sorted-each, rising-sorted, sorted-compare}
 use Rattle.tasks.specs.declared.Task.{Task}
 use Rattle.columns.specs.Columns.{columns, Run, runs}
-use Rattle.columns.proofs.Runs.{Gap, Longest, Held, runs-sorted, runs-cover, runs-longest, longest-runs}
+use Rattle.columns.proofs.Runs.{Gap, Longest, runs-sorted, runs-cover, runs-longest, longest-runs}
 use Rattle.planners.specs.Planners.{release}
 use Rattle.lookups.specs.Lookups.{Strip, strip, horizonList}
 

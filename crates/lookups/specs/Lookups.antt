@@ -1,5 +1,5 @@
 -- What a viewer draws of the live tasks: the horizon list and the busy columns. Assumes nothing.
-use Prim.Native.Nat.{ℕ, suc, _+_, _-_}
+use Prim.Native.Nat.{ℕ, _+_, _-_}
 use mathlib.Core.Bool.{not}
 use mathlib.Core.List.{List, [], _∷_, map}
 use lib.Dec.{eqb}

@@ -2,7 +2,7 @@
 use Prim.Native.Nat.{ℕ, _+_, _-_, _*_, _/_, _≤_, _<_, max, min}
 use mathlib.Core.Path.{_≡_, sym, ap, ap₂, _∙_}
 use mathlib.Core.Bool.{true, false}
-use mathlib.Core.List.{List, [], _++_}
+use mathlib.Core.List.{List}
 use native.Mathlib.Omega.{arith}
 use native.Mathlib.Decide.{decLt}
 use lib.ListN.{length, take}
@@ -10,7 +10,7 @@ use Rattle.lists.specs.Lists.{overFront}
 use Rattle.planners.specs.Openings.{Place, pairWords}
 use Rattle.planners.specs.Lent.{OnDevice, tasksOf}
 use Rattle.words.specs.Words.{column, Least}
-use Rattle.held.specs.Held.{Held, FirstFree, NextFinish, Unchanged}
+use Rattle.held.specs.Held.{Held, FirstFree, Unchanged}
 use Rattle.held.proofs.Opens.{held-lasts}
 use Rattle.held.proofs.Rest.{rest, rest-early, rest-over, rest-beyond, rest-first, rest-run, rest-none, rest-jump}
 use Rattle.openings.specs.declared.Filled.{Filled}

@@ -1,20 +1,18 @@
 -- Openings written one after the other: a run more, and what the buffer and the answer are when no more fits or none is left. Assumes nothing.
-use Prim.Native.Nat.{ℕ, zero, suc, _+_, _-_, _*_, _/_, _≤_, _<_}
+use Prim.Native.Nat.{ℕ, suc, _+_, _-_, _*_, _/_, _≤_, _<_}
 use mathlib.Core.Path.{_≡_, refl, sym, ap, _∙_}
 use mathlib.Core.Bool.{true, false}
 use mathlib.Core.List.{List, [], _∷_, _++_, map, append-nil, append-assoc, map-append}
 use native.Mathlib.Nat.{zero-add}
 use native.Mathlib.Omega.{arith}
 use borrow.Author.Tests.{lt-ltb, le-ltb}
-use lib.Dec.{ltb}
-use lib.ListN.{length, take, drop, set, length-append, length-map}
+use lib.ListN.{length, take, set, length-append, length-map}
 use lib.Seq.{sets, sets-eq, length-sets, take-all, take-append-seam}
 use Rattle.lists.specs.Lists.{range, overFront}
 use Rattle.lists.proofs.Append.{range-more, range-length}
 use Rattle.lists.proofs.Stores.{sets-append}
 use Rattle.ways.specs.Ways.{pair}
 use Rattle.planners.specs.Openings.{Place, pairWords}
-use Rattle.openings.specs.declared.Filled.{Filled}
 use Rattle.openings.specs.Filled.{filledOf, runAt}
 
 words-append : (ps qs : List Place) → pairWords (ps ++ qs) ≡ pairWords ps ++ pairWords qs

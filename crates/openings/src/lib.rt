@@ -1,7 +1,7 @@
 // The list of openings after a pair, written to a lent buffer: a run of columns at a time, from tick to tick while something is
 // open, from finish to finish where nothing is. Its cost grows with the openings written and the live tasks, not with blocked ticks.
 ghost use mathlib.Core.Path.{_≡_};
-ghost use Prim.Native.Nat.{ℕ, _+_, _-_, _*_, _/_, _≤_, _<_, max, min};
+ghost use Prim.Native.Nat.{_+_, _-_, _*_, _/_, _≤_, _<_, max, min};
 ghost use lib.ListN.{length, take};
 ghost use lib.Seq.{sets};
 ghost use Rattle.lists.specs.Lists.{overFront};

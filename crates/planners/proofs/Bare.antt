@@ -1,24 +1,24 @@
 -- A planner reads of a task only its columns and its ticks: the arrays that it is lent stand for the live tasks. Assumes nothing.
-use Prim.Native.Nat.{ℕ, zero, suc, _+_, _-_, _≤_, _<_}
-use mathlib.Core.Path.{_≡_, refl, sym, ap, ap₂, _∙_, subst, fun-ext}
-use mathlib.Core.Bool.{Bool, true, false, not, _&&_}
+use Prim.Native.Nat.{ℕ, _+_, _-_, _<_}
+use mathlib.Core.Path.{_≡_, refl, sym, ap, ap₂, _∙_, fun-ext}
+use mathlib.Core.Bool.{Bool, not, _&&_}
 use mathlib.Core.Option.{Option, none, some}
 use mathlib.Core.List.{List, [], _∷_, map}
 use native.Mathlib.Omega.{arith}
 use lib.Dec.{leb, ltb, leb→le, ltb→lt, not-T}
 use lib.ListN.{length, take, getD}
-use Rattle.lists.specs.Lists.{some?, keep, head?, orElse, firstOf, highest, range, rising}
+use Rattle.lists.specs.Lists.{keep, head?, orElse, firstOf, highest, range, rising}
 use Rattle.lists.proofs.Bools.{and-l, and-r}
 use Rattle.lists.proofs.Members.{keep-no}
 use Rattle.lists.proofs.Append.{some-map, keep-map, map-map, map-range, holds-at}
-use Rattle.ways.specs.Ways.{Pair, Ways, isOpen, pairsIn, openingsIn, after, openingsAfter}
+use Rattle.ways.specs.Ways.{isOpen, pairsIn, openingsIn, after, openingsAfter}
 use Rattle.tasks.specs.declared.Phase.the-variants.{Ended}
 use Rattle.tasks.specs.declared.Task.{Task}
 use Rattle.tasks.specs.declared.Submission.{Submission}
 use Rattle.tasks.specs.Tasks.{finish, meets, covers, holds, phaseAt, waitingPhase, stamped, booked, freeSlot}
 use Rattle.columns.specs.Columns.{columns, runs, bestFit}
 use Rattle.planners.specs.Openings.{Place, ways, openings, full}
-use Rattle.planners.specs.Planners.{free, release, leftEdge, visited, clearOfWaiting, candidates, releasedEdges, reference, horizon, stuffing, planned}
+use Rattle.planners.specs.Planners.{free, release, leftEdge, visited, clearOfWaiting, candidates, releasedEdges, reference, horizon, stuffing}
 use Rattle.planners.specs.Lent.{taskAt, tasksOf, asked}
 
 -- a task by what a planner reads of it

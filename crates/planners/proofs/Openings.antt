@@ -1,23 +1,22 @@
 -- Demand 3 about the definitions: the openings are exactly document 01's pairs, strictly ordered, and Full takes the first. Assumes nothing.
-use Prim.Native.Nat.{ℕ, zero, suc, _+_, _-_, _≤_, _<_, max, min}
-use mathlib.Core.Path.{_≡_, refl, sym, ap, _∙_, subst}
+use Prim.Native.Nat.{ℕ, suc, _+_, _-_, _≤_, _<_, max, min}
+use mathlib.Core.Path.{_≡_, refl, _∙_}
 use mathlib.Core.Logic.{_⊎_, inl, inr}
-use mathlib.Core.Bool.{Bool, true, false, not, _&&_}
 use mathlib.Core.Option.{Option, none, some}
-use mathlib.Core.List.{List, [], _∷_, List·Memᴰ·head as here, List·Memᴰ·tail as there, List·Memᴰ·cases-cons as cases, List·Memᴰ·not-nil as nowhere}
+use mathlib.Core.List.{List, _∷_, List·Memᴰ·head as here, List·Memᴰ·cases-cons as cases, List·Memᴰ·not-nil as nowhere}
 use native.Mathlib.Omega.{arith}
 use lib.Dec.{T, ltb, ltb→lt, lt→ltb, not-T, T-not}
 use lib.ListN.{length, take, drop}
-use Rattle.lists.specs.Lists.{_∈_, some?, head?, range, lastOr}
+use Rattle.lists.specs.Lists.{_∈_, lastOr}
 use Rattle.lists.proofs.Bools.{and-l, and-r, and-i}
 use Rattle.lists.proofs.Members.{none-pass, pass-none, range-in, in-range, head-none, head-some}
 use Rattle.lists.proofs.Order.{Sorted, Sorted·head, sorted-range, sorted-by}
-use Rattle.ways.specs.Ways.{Pair, pair, Ways, isOpen, openingsIn, openingsAfter, askedOn}
+use Rattle.ways.specs.Ways.{pair, isOpen, openingsAfter, askedOn}
 use Rattle.ways.proofs.Laws.{Lawful, Open, After, sooner, beside, openings-in, in-openings, openings-sorted, openings-unique, rest-in, rest-out, rest-sorted, after-part, asked-all, all}
 use Rattle.tasks.specs.declared.Task.{Task}
 use Rattle.tasks.specs.declared.Submission.{Submission}
-use Rattle.tasks.specs.Tasks.{finish, overlap, meets, inPhase, stamped, booked}
-use Rattle.tasks.proofs.Laws.{Common, overlap-common, common-overlap, Share, meets-share, share-meets}
+use Rattle.tasks.specs.Tasks.{finish, overlap, meets, stamped, booked}
+use Rattle.tasks.proofs.Laws.{Common, Share, meets-share, share-meets}
 use Rattle.planners.specs.Openings.{Place, ways, openings, full}
 
 -- AN OPENING, in the words of document 01

@@ -1,28 +1,26 @@
 -- What the published planners answer: the least visited time that has a candidate, the first candidate there, always an opening. Assumes nothing.
-use Prim.Native.Nat.{ℕ, zero, suc, _+_, _-_, _≤_, _<_}
-use mathlib.Core.Path.{_≡_, refl, sym, ap, _∙_, subst}
+use Prim.Native.Nat.{ℕ, zero, suc, _+_, _≤_, _<_}
+use mathlib.Core.Path.{_≡_, refl, ap, subst}
 use mathlib.Core.Logic.{_⊎_, inl, inr}
-use mathlib.Core.Bool.{Bool, true, false, not, _&&_}
-use mathlib.Core.Option.{Option, none, some}
-use mathlib.Core.List.{List, [], _∷_, map, List·Memᴰ·head as here, List·Memᴰ·tail as there, List·Memᴰ·cases-cons as cases, List·Memᴰ·not-nil as nowhere}
+use mathlib.Core.Bool.{Bool, not, _&&_}
+use mathlib.Core.Option.{none, some}
+use mathlib.Core.List.{List, [], _∷_, map, List·Memᴰ·head as here, List·Memᴰ·tail as there, List·Memᴰ·cases-cons as cases}
 use native.Mathlib.Omega.{arith}
-use native.Mathlib.Decide.{decLe, decLt}
+use native.Mathlib.Decide.{decLt}
 use lib.Dec.{T, leb, ltb, leb→le, le→leb, ltb→lt, lt→ltb, not-T, T-not}
-use Rattle.lists.specs.Lists.{_∈_, keep, some?, head?, firstOf, range, highest, rising}
+use Rattle.lists.specs.Lists.{_∈_, keep, some?, head?, firstOf, rising}
 use Rattle.lists.proofs.Bools.{and-l, and-r, and-i, same-bool}
-use Rattle.lists.proofs.Members.{keep-in, in-keep, none-pass, pass-none, map-in, in-map, head-none, head-some, head-in, highest-over, highest-from, rising-in, in-rising}
-use Rattle.lists.proofs.Order.{Sorted, next, sorted-keep, rising-sorted, Earliest, first-some, first-none, none-first}
-use Rattle.ways.specs.Ways.{Pair, pair, isOpen}
-use Rattle.tasks.specs.declared.Phase.{Phase}
-use Rattle.tasks.specs.declared.Phase.the-variants.{Ended, Waiting, Running}
+use Rattle.lists.proofs.Members.{keep-in, in-keep, none-pass, pass-none, map-in, in-map, head-none, head-some, head-in, highest-over, rising-in, in-rising}
+use Rattle.lists.proofs.Order.{Sorted, next, sorted-keep, rising-sorted, first-some, first-none, none-first}
+use Rattle.ways.specs.Ways.{isOpen}
 use Rattle.tasks.specs.declared.Task.{Task}
 use Rattle.tasks.specs.declared.Submission.{Submission}
 use Rattle.tasks.specs.Tasks.{finish, meets, covers, holds, phaseAt, waitingPhase, stamped, booked}
-use Rattle.tasks.proofs.Laws.{Common, Share, meets-share, share-meets, holds-in, covers-in, phase-waiting}
-use Rattle.columns.specs.Columns.{columns, Run, runs, bestFit}
-use Rattle.columns.proofs.Runs.{Lies, runs-lie}
+use Rattle.tasks.proofs.Laws.{Share, meets-share, share-meets, holds-in, covers-in, phase-waiting}
+use Rattle.columns.specs.Columns.{columns, runs, bestFit}
+use Rattle.columns.proofs.Runs.{runs-lie}
 use Rattle.columns.proofs.BestFit.{fit-in}
-use Rattle.planners.specs.Openings.{Place, ways, openings, full}
+use Rattle.planners.specs.Openings.{Place, ways}
 use Rattle.planners.specs.Planners.{free, release, leftEdge, visited, clearOfWaiting, candidates, releasedEdges, reference, horizon, stuffing, planned}
 use Rattle.planners.proofs.Openings.{Opening, full-opens}
 
@@ -49,30 +47,7 @@ nothing-tried tried times f = none-first (λ j. head? (tried j)) times (λ i m. 
     empty : (i : ℕ) → tried i ≡ [] → head? (tried i) ≡ none
     empty i e = unfold head? in rw e
 
--- AN ANSWER OF THAT KIND IS THE ONE: the first candidate at the least visited time that has one is what the planner gives
-pub answered : (tried : ℕ → List Place) {times : List ℕ} → Sorted _<_ times → {p : Place} → Answers tried times p → firstOf (λ i. head? (tried i)) times ≡ some p
-answered tried {times} s {p} r = step (firstOf (λ i. head? (tried i)) times) refl
-  where
-    clash : (i : ℕ) {q : Place} {qs : List Place} → tried i ≡ [] → tried i ≡ q ∷ qs → ⊥
-    clash i a b = let z : _≡_ {A = ℕ} 0 1 = cc in omega arith
-
-    same : (q : Place) (o : Answers tried times q) → o .at ≡ r .at → q ≡ p
-    same q o e = let z : q ∷ o .others ≡ p ∷ r .others = sym (o .first) ∙ ap tried e ∙ r .first in cc
-
-    pick : (q : Place) (o : Answers tried times q) → Dec (o .at < r .at) → Dec (r .at < o .at) → q ≡ p
-    pick q o (yes l) d = absurd (clash (o .at) (r .none-before (o .at) (o .among) l) (o .first))
-    pick q o (no l) (yes h) = absurd (clash (r .at) (o .none-before (r .at) (r .among) h) (r .first))
-    pick q o (no l) (no h) = same q o (omega arith)
-
-    step : (o : Option Place) → firstOf (λ i. head? (tried i)) times ≡ o → o ≡ some p
-    step none e = absurd (clash (r .at) (nothing tried times e (r .at) (r .among)) (r .first))
-    step (some q) e = let o = answers tried s e in ap some (pick q o (decLt (o .at) (r .at)) (decLt (r .at) (o .at)))
-
--- the release of a column is not before now, and not before the finish of a live task that has the column
-pub release-from : (now : ℕ) (ts : List Task) (c : ℕ) → now ≤ release now ts c
-unfolding release
-release-from now ts c = highest-from now (map finish (keep (covers c) ts))
-
+-- the release of a column is not before the finish of a live task that has the column
 pub release-over : (now : ℕ) (ts : List Task) (c : ℕ) {u : Task} → u ∈ ts → T (covers c u) → finish u ≤ release now ts c
 unfolding release
 release-over now ts c m t = highest-over now (in-map finish (in-keep (covers c) m t))
@@ -147,10 +122,6 @@ module _ (W now : ℕ) (ts : List Task) (a : Submission) where
   pub rejects-horizon : ((i : ℕ) → i ∈ visited W now ts a (map (release now ts) (columns W)) → releasedEdges W now ts a i ≡ []) → horizon W now ts a ≡ none
   unfolding horizon
   rejects-horizon f = nothing-tried (releasedEdges W now ts a) (visited W now ts a (map (release now ts) (columns W))) f
-
-  pub answers-horizon : {p : Place} → Answers (releasedEdges W now ts a) (visited W now ts a (map (release now ts) (columns W))) p → horizon W now ts a ≡ some p
-  unfolding horizon
-  answers-horizon r = answered (releasedEdges W now ts a) (visited-rising (map (release now ts) (columns W))) r
 
   -- a left edge that best fit tries among the runs of columns that pass
   pub record Edge (passes : ℕ → Bool) (i : ℕ) (p : Place) : Type 0 where

@@ -1,8 +1,8 @@
 -- The walk through the visited times: where it stands, what ends it, and the next time. Assumes nothing.
-use Prim.Native.Nat.{ℕ, suc, _+_, _≤_, _<_}
+use Prim.Native.Nat.{ℕ, _+_, _≤_, _<_}
 use mathlib.Core.Path.{_≡_, refl, sym, ap, _∙_, subst}
 use mathlib.Core.Logic.{_⊎_, inl, inr}
-use mathlib.Core.Bool.{Bool, true, false, not}
+use mathlib.Core.Bool.{Bool, not}
 use mathlib.Core.Option.{Option, none, some}
 use mathlib.Core.List.{List, [], _∷_, map, List·Memᴰ·head as here, List·Memᴰ·tail as there, List·Memᴰ·cases-cons as cases, List·Memᴰ·not-nil as nowhere}
 use native.Mathlib.Omega.{arith}
@@ -15,7 +15,7 @@ use Rattle.tasks.specs.declared.Task.{Task}
 use Rattle.tasks.specs.declared.Submission.{Submission}
 use Rattle.planners.specs.Openings.{Place}
 use Rattle.planners.specs.Planners.{visited}
-use Rattle.planners.proofs.Planners.{Visit, visited-in, in-visited, now-visited, visited-rising}
+use Rattle.planners.proofs.Planners.{visited-in, in-visited, now-visited, visited-rising}
 
 -- the answer at the least number that has one is the first along a rising list
 pub first-is : {B : Type 0} (f : ℕ → Option B) {xs : List ℕ} → Sorted _<_ xs → {t : ℕ} → t ∈ xs → {b : B} → f t ≡ some b → ((i : ℕ) → i ∈ xs → i < t → f i ≡ none) → firstOf f xs ≡ some b
@@ -63,48 +63,39 @@ module _ (W now : ℕ) (ts : List Task) (a : Submission) (tried : ℕ → List P
   pub visits-hit : {t : ℕ} {p : Place} → Visits t → head? (tried t) ≡ some p → answer ≡ some p
   visits-hit {t} v e = first-is (λ i. head? (tried i)) (visited-rising W now ts a times) (v .among) e (λ i m l. headless i (v .none-before i m l))
 
-  -- there is none at t, and no later time is visited
-  pub visits-none : {t : ℕ} → Visits t → tried t ≡ [] → ((x : ℕ) → x ∈ times → (x ≤ t) ⊎ (a .d < x + a .e)) → answer ≡ none
-  visits-none {t} v e f = none-first (λ i. head? (tried i)) (visited W now ts a times) (λ i m. headless i (each i m (decLt i t) (decEq i t)))
-    where
-      late : (i : ℕ) → i ∈ visited W now ts a times → t < i → ⊥
-      late i m l = step (visited-in W now ts a times m .listed)
-        where
-          k : Visit W now ts a times i
-          k = visited-in W now ts a times m
+  -- there is none at t, and no time of the list lies between t and u
+  module _ {t u : ℕ} (v : Visits t) (e : tried t ≡ []) (f : (x : ℕ) → x ∈ times → (x ≤ t) ⊎ (u ≤ x)) where
+    -- a visited time that was not yet tried is not before u
+    later : (i : ℕ) → i ∈ visited W now ts a times → t < i → u ≤ i
+    later i m l = step (visited-in W now ts a times m .listed)
+      where
+        far : (i ≤ t) ⊎ (u ≤ i) → u ≤ i
+        far (inl z) = absurd (omega arith)
+        far (inr z) = z
 
-          far : (i ≤ t) ⊎ (a .d < i + a .e) → ⊥
-          far (inl z) = omega arith
-          far (inr z) = let y = k .in-time (omega (arith, visits-from v)) in omega arith
+        step : (i ≡ now) ⊎ (i ∈ times) → u ≤ i
+        step (inl z) = absurd (omega (arith, visits-from v))
+        step (inr n) = far (f i n)
 
-          step : (i ≡ now) ⊎ (i ∈ times) → ⊥
-          step (inl z) = omega (arith, visits-from v)
-          step (inr n) = far (f i n)
+    upto : (i : ℕ) → i ∈ visited W now ts a times → i ≤ t → tried i ≡ []
+    upto i m l = step (decEq i t)
+      where
+        step : Dec (i ≡ t) → tried i ≡ []
+        step (yes q) = ap tried q ∙ e
+        step (no q) = v .none-before i m (omega arith)
 
-      each : (i : ℕ) → i ∈ visited W now ts a times → Dec (i < t) → Dec (i ≡ t) → tried i ≡ []
-      each i m (yes l) q = v .none-before i m l
-      each i m (no l) (yes q) = ap tried q ∙ e
-      each i m (no l) (no q) = absurd (late i m (omega arith))
+    -- u comes too late: none is left
+    pub visits-none : a .d < u + a .e → answer ≡ none
+    visits-none h = none-first (λ i. head? (tried i)) (visited W now ts a times) (λ i m. headless i (each i m (decLt t i)))
+      where
+        each : (i : ℕ) → i ∈ visited W now ts a times → Dec (t < i) → tried i ≡ []
+        each i m (no l) = upto i m (omega arith)
+        each i m (yes l) = absurd (let z = later i m l in let y = visited-in W now ts a times m .in-time (omega (arith, visits-from v)) in omega arith)
 
-  -- there is none at t, and u is the next time
-  pub visits-on : {t u : ℕ} → Visits t → tried t ≡ [] → u ∈ times → t < u → u + a .e ≤ a .d → ((x : ℕ) → x ∈ times → (x ≤ t) ⊎ (u ≤ x)) → Visits u
-  visits-on {t} {u} v e m l h f = record {
-    among = in-visited W now ts a times m (omega (arith, visits-from v)) h;
-    none-before = λ i n k. each i n k (decLt i t) (decEq i t);
-  }
-    where
-      between : (i : ℕ) → i ∈ visited W now ts a times → t < i → i < u → ⊥
-      between i n p q = step (visited-in W now ts a times n .listed)
-        where
-          far : (i ≤ t) ⊎ (u ≤ i) → ⊥
-          far (inl z) = omega arith
-          far (inr z) = omega arith
-
-          step : (i ≡ now) ⊎ (i ∈ times) → ⊥
-          step (inl z) = omega (arith, visits-from v)
-          step (inr k) = far (f i k)
-
-      each : (i : ℕ) → i ∈ visited W now ts a times → i < u → Dec (i < t) → Dec (i ≡ t) → tried i ≡ []
-      each i n k (yes p) q = v .none-before i n p
-      each i n k (no p) (yes q) = ap tried q ∙ e
-      each i n k (no p) (no q) = absurd (between i n (omega arith) k)
+    -- u is the next time
+    pub visits-on : u ∈ times → t < u → u + a .e ≤ a .d → Visits u
+    visits-on m l h = record { among = in-visited W now ts a times m (omega (arith, visits-from v)) h; none-before = λ i n k. each i n k (decLt t i) }
+      where
+        each : (i : ℕ) → i ∈ visited W now ts a times → i < u → Dec (t < i) → tried i ≡ []
+        each i n k (no p) = upto i n (omega arith)
+        each i n k (yes p) = absurd (let z = later i n p in omega arith)

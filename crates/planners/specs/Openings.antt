@@ -7,7 +7,7 @@ use Rattle.lists.specs.Lists.{head?, range}
 use Rattle.ways.specs.Ways.{Pair, Ways, openingsIn}
 use Rattle.tasks.specs.declared.Task.{Task}
 use Rattle.tasks.specs.declared.Submission.{Submission}
-use Rattle.tasks.specs.Tasks.{finish, meets, booked}
+use Rattle.tasks.specs.Tasks.{meets, booked}
 
 -- a start and a column
 abbrev pub Place : Type 0

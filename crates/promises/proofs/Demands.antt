@@ -4,10 +4,10 @@ use mathlib.Core.Path.{_≡_}
 use mathlib.Core.Logic.{_⊎_}
 use mathlib.Core.Bool.{false}
 use mathlib.Core.Option.{none, some}
-use mathlib.Core.List.{List, [], _∷_, _++_, map}
+use mathlib.Core.List.{List, [], _++_, map}
 use native.Mathlib.Omega.{arith}
 use lib.Dec.{T}
-use lib.ListN.{length, take, drop}
+use lib.ListN.{length, take}
 use Rattle.lists.specs.Lists.{_∈_, head?, lastOr}
 use Rattle.lists.proofs.Order.{Sorted}
 use Rattle.ways.specs.Ways.{pair}

@@ -2,3 +2,4 @@ pub mod Proved
 pub mod Unique
 pub mod Session
 pub mod Demands
+pub mod Lines

@@ -2,14 +2,14 @@
 use Prim.Native.Nat.{ℕ, zero, suc, _+_, _≤_, _<_}
 use mathlib.Core.Path.{_≡_, refl, sym, ap, _∙_, subst}
 use mathlib.Core.Logic.{_⊎_, inl, inr}
-use mathlib.Core.Bool.{Bool, true, false, not, cond, _&&_, true≢false}
+use mathlib.Core.Bool.{Bool, true, false, not, cond, _&&_}
 use mathlib.Core.List.{List, [], _∷_, map, List·Memᴰ·head as here, List·Memᴰ·tail as there, List·Memᴰ·cases-cons as cases, List·Memᴰ·not-nil as nowhere}
 use native.Mathlib.Omega.{arith}
 use native.Mathlib.Decide.{decLe, decLt}
-use lib.Dec.{T, ltb, eqb, ltb→lt, lt→ltb, eqb→eq, eqb-refl, not-T, T-not}
-use lib.ListN.{length, set}
-use Rattle.lists.specs.Lists.{_∈_, keep, some?, indexOf, putFirst}
-use Rattle.lists.proofs.Bools.{and-l, and-r, and-i, bool, is-true, is-false}
+use lib.Dec.{T, ltb, eqb, lt→ltb, not-T, T-not}
+use lib.ListN.{length}
+use Rattle.lists.specs.Lists.{_∈_, keep, indexOf, putFirst}
+use Rattle.lists.proofs.Bools.{and-r, and-i}
 use Rattle.lists.proofs.Members.{keep-in, in-keep, in-map, none-pass}
 use Rattle.lists.proofs.Append.{put-index}
 use Rattle.lists.proofs.Order.{Sorted, empty, next, sorted-keep}
@@ -17,12 +17,12 @@ use Rattle.tasks.specs.declared.Task.{Task}
 use Rattle.tasks.specs.declared.Submission.{Submission}
 use Rattle.tasks.specs.Numbers.{deviceFits}
 use Rattle.tasks.specs.Tasks.{finish, live, runningPhase, phaseAt, stamped, freeSlot, booked}
-use Rattle.tasks.proofs.Laws.{Common, Share, share-sym}
+use Rattle.tasks.proofs.Laws.{Share}
 use Rattle.ways.specs.Ways.{pair}
 use Rattle.planners.proofs.Openings.{Opening}
-use Rattle.slots.specs.Slots.{named, known, runsNamed, withoutNamed, allAgedTo}
-use Rattle.slots.proofs.Soundness.{InPhase, running, waiting, Sound, SoundTask}
-use Rattle.slots.proofs.Ageing.{live-aged, stamped-live, stamped-phase}
+use Rattle.slots.specs.Slots.{named, known, runsNamed, withoutNamed}
+use Rattle.slots.proofs.Soundness.{InPhase, running, waiting, SoundTask}
+use Rattle.slots.proofs.Ageing.{live-aged, stamped-live}
 use Rattle.board.specs.declared.Board.{Board}
 use Rattle.board.specs.declared.Answer.{Answer}
 use Rattle.board.specs.declared.Answer.the-variants.{Rejected, Placed, Refused}
@@ -30,14 +30,14 @@ use Rattle.board.specs.Refusals.{_when_, refusal, liveOf, soundBoard, refusedIn
 use Rattle.board.specs.Calls.{orRefused, withTasks, zeroBoard, created, submitted, boardAt, clocked, withdrawn}
 use Rattle.board.specs.Untested.{submittedBooked}
 use Rattle.board.proofs.Refusals.{none-holds}
-use Rattle.board.proofs.Kept.{SoundBoard, submitted-sound, clocked-stays-sound, withdrawn-stays-sound, created-sound, zero-unsound, Passable, instant-passable, clocked-done, refused-clock-same, refused-withdraw-same}
+use Rattle.board.proofs.Kept.{SoundBoard, submitted-sound, clocked-stays-sound, withdrawn-stays-sound, created-sound, zero-unsound, instant-passable, clocked-done, refused-clock-same, refused-withdraw-same}
 use Rattle.board.proofs.Submit.{submit-unsound}
 use Rattle.board.proofs.Untested.{clocked-unsound, withdrawn-unsound}
 use Rattle.board.proofs.Placed.{placed-opens, BooksAt, placed-books, unplaced-same}
 use Rattle.events.specs.declared.Event.{Event}
 use Rattle.events.specs.declared.Event.the-variants.{NewBoard, Submit, Clock, Withdraw}
 use Rattle.session.specs.Recording.{outcome}
-use Rattle.session.proofs.Steps.{created-not}
+use Rattle.steps.proofs.Steps.{created-not}
 use Rattle.promises.specs.Ledger.{entered, struck, ledgerAfter, Account, accountAfter}
 
 -- an element that does not pass stays where one that passes is replaced, and the new one is there

@@ -20,6 +20,11 @@ use Rattle.events.proofs.read_at.Reads as read-at
 use Rattle.events.proofs.write.Reads as write
 use Rattle.session.proofs.run.Reads as run
 use Rattle.table1.proofs.rows.Reads as rows
+use Rattle.lines.proofs.read.Reads as line
+use Rattle.questions.proofs.read.Reads as question
+use Rattle.shown.proofs.put_answer.Reads as put-answer
+use Rattle.shown.proofs.put_board.Reads as put-board
+use Rattle.shown.proofs.put_stamped.Reads as put-stamped
 
 -- two things that are the same third
 one : {A : Type 0} {x y z : A} → x ≡ z → y ≡ z → x ≡ y
@@ -70,3 +75,20 @@ run-unique κs a r q s t e f = (one (e .0) (f .0), one (e .1 .0) (f .1 .0))
 
 pub rows-unique : (κs : _) (a : _) (r q : _) (s t : _) → rows.Post κs a r s → rows.Post κs a q t → r ≡ q
 rows-unique κs a r q s t e f = one e f
+
+-- what the programs `record` and `ask` read
+pub line-unique : (κs : _) (a : _) (r q : _) (s t : _) → line.Post κs a r s → line.Post κs a q t → r ≡ q
+line-unique κs a r q s t e f = one e f
+
+pub question-unique : (κs : _) (a : _) (r q : _) (s t : _) → question.Post κs a r s → question.Post κs a q t → r ≡ q
+question-unique κs a r q s t e f = one e f
+
+-- what `ask` prints of a board
+pub put-answer-unique : (κs : _) (a : _) (r q : _) (s t : _) → put-answer.Post κs a r s → put-answer.Post κs a q t → (r ≡ q) × (s .0 .now ≡ t .0 .now)
+put-answer-unique κs a r q s t e f = (one (e .0) (f .0), one (e .1 .0) (f .1 .0))
+
+pub put-board-unique : (κs : _) (a : _) (r q : _) (s t : _) → put-board.Post κs a r s → put-board.Post κs a q t → (r ≡ q) × (s .0 .now ≡ t .0 .now)
+put-board-unique κs a r q s t e f = (one (e .0) (f .0), one (e .1 .0) (f .1 .0))
+
+pub put-stamped-unique : (κs : _) (a : _) (r q : _) (s t : _) → put-stamped.Post κs a r s → put-stamped.Post κs a q t → (r ≡ q) × (s .0 .now ≡ t .0 .now)
+put-stamped-unique κs a r q s t e f = (one (e .0) (f .0), one (e .1 .0) (f .1 .0))

@@ -1,14 +1,13 @@
 -- How a case is written down: a device, what is done and asked, and the numbers that come of it. Assumes nothing.
-use Prim.Native.Nat.{ℕ, zero, suc}
+use Prim.Native.Nat.{ℕ}
 use mathlib.Core.Bool.{Bool, true, false, cond}
-use mathlib.Core.List.{List, [], _∷_, _++_}
+use mathlib.Core.List.{List, [], _∷_}
 use lib.Dec.{eqb}
-use lib.ListN.{length, getD, replicate}
+use lib.ListN.{replicate}
 use Rattle.tasks.specs.declared.Submission.{Submission}
 use Rattle.board.specs.declared.Board.{Board}
 use Rattle.board.specs.Answers.{Told}
 use Rattle.board.specs.Calls.{created, opened, openedBuffer, listed, listedBuffer, counted}
-use Rattle.events.specs.declared.Event.{Event}
 use Rattle.events.specs.declared.Event.the-variants.{NewBoard, Submit, Clock, Withdraw}
 use Rattle.session.specs.Recording.{Outcome, outcome}
 

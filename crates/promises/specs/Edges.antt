@@ -1,14 +1,12 @@
 -- The edges of every number range, and each refusal beside those that could win over it. Assumes nothing.
-use Prim.Native.Nat.{ℕ, zero, suc}
-use mathlib.Core.List.{List, [], _∷_, _++_, map}
+use Prim.Native.Nat.{ℕ}
+use mathlib.Core.List.{List, [], _∷_, map}
 use lib.ListN.{replicate}
 use Rattle.lists.specs.Lists.{range}
-use Rattle.tasks.specs.declared.Phase.{Phase}
-use Rattle.tasks.specs.declared.Phase.the-variants.{Ended, Waiting, Running}
+use Rattle.tasks.specs.declared.Phase.the-variants.{Running}
 use Rattle.tasks.specs.declared.Task.{Task}
-use Rattle.tasks.specs.Tasks.{freeSlot}
 use Rattle.board.specs.declared.Board.{Board}
-use Rattle.promises.specs.Cases.{Step, board, submit, clock, withdraw, horizon, openings, busy, Case, case, at, only}
+use Rattle.promises.specs.Cases.{board, submit, clock, withdraw, horizon, openings, busy, Case, case, at, only}
 
 -- a question that is refused: the number, a count of 0, for openings no further one, and a buffer as it was
 unfoldable pub refusedList : ℕ → List ℕ → List ℕ

@@ -2,3 +2,4 @@ pub mod Cases
 pub mod ProvingSet
 pub mod Edges
 pub mod Ledger
+pub mod Said

@@ -1,15 +1,14 @@
 -- The proving set of document 01, cases 1 to 9, as one table, with the cases that tell near misses apart. Assumes nothing.
-use Prim.Native.Nat.{ℕ, zero, suc}
-use mathlib.Core.Bool.{Bool}
-use mathlib.Core.List.{List, [], _∷_, _++_, map}
+use Prim.Native.Nat.{ℕ, suc}
+use mathlib.Core.List.{List, [], _∷_, _++_}
 use lib.ListN.{getD, take}
 use Rattle.table1.specs.Table.{table1}
 use Rattle.events.specs.declared.Event.{Event}
 use Rattle.events.specs.declared.Event.the-variants.{NewBoard, Submit, Clock, Withdraw}
 use Rattle.events.specs.Records.{recordOf}
 use Rattle.lists.specs.Lists.{each}
-use Rattle.session.specs.Recording.{Line, planLines}
-use Rattle.promises.specs.Cases.{task, Step, board, submit, clock, withdraw, horizon, openings, busy, Case, case, at, only}
+use Rattle.session.specs.Recording.{Line}
+use Rattle.promises.specs.Cases.{task, Step, submit, clock, withdraw, horizon, openings, Case, case, at, only}
 
 -- each row of the table as a clock to its arrival and a submission to planner n
 unfoldable pub played : ℕ → ℕ → List (List ℕ) → List Step

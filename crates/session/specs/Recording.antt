@@ -4,14 +4,13 @@ use mathlib.Core.List.{List, [], _∷_}
 use lib.ListN.{length, drop}
 use Rattle.lists.specs.Lists.{overFront}
 use Rattle.board.specs.declared.Board.{Board}
-use Rattle.board.specs.Answers.{Told, bare, told}
-use Rattle.board.specs.Calls.{zeroBoard, created, submitted, clocked, withdrawn}
-use Rattle.events.specs.declared.Event.{Event}
-use Rattle.events.specs.declared.Event.the-variants.{NewBoard, Submit, Clock, Withdraw}
-use Rattle.events.specs.declared.Reading.{Reading}
+use Rattle.board.specs.Answers.{Told, bare}
+use Rattle.board.specs.Calls.{zeroBoard}
 use Rattle.events.specs.declared.Reading.the-variants.{End, Got, CutShort, Unknown}
 use Rattle.events.specs.Records.{kindOf, readFrom}
 use Rattle.session.specs.declared.Ran.{Ran}
+pub use Rattle.steps.specs.Outcomes.{Outcome}
+unfoldable pub use Rattle.steps.specs.Outcomes.{outcome}
 
 -- "event number from 1, kind, answer, column, start, finish"
 pub record Line : Type 0 where
@@ -26,18 +25,6 @@ pub record Line : Type 0 where
 unfoldable pub lineOf : ℕ → ℕ → Told → Line
 lineOf n kind a =
     record { event = n; kind = kind; answer = a .number; column = a .column; start = a .start; finish = a .finish }
-
--- what an event is answered, and the board that follows
-pub record Outcome : Type 0 where
-  pub answer : Told
-  pub board : Board
-
--- each event is its call; "the last three 0 for all but submissions"
-unfoldable pub outcome : Board → Event → Outcome
-outcome b (NewBoard W H) = let r = created W H in record { answer = bare (r .number); board = r .board }
-outcome b (Submit n a) = let r = submitted b n a in record { answer = told (r .answer); board = r .board }
-outcome b (Clock i) = let r = clocked b i in record { answer = bare (r .number); board = r .board }
-outcome b (Withdraw n) = let r = withdrawn b n in record { answer = bare (r .number); board = r .board }
 
 -- the lines from a board on, of which n events are done, for as many events as are left to read:
 -- "After 15 or 16 it prints that line (kind as the byte read, zeros) and stops"

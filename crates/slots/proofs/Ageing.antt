@@ -1,23 +1,21 @@
 -- The clock over the slots: a sound board stays sound, what has not finished stands, now changes nothing, two clocks are the later one. Assumes nothing.
-use Prim.Native.Nat.{ℕ, zero, suc, _+_, _≤_, _<_}
+use Prim.Native.Nat.{ℕ, _≤_, _<_}
 use mathlib.Core.Path.{_≡_, refl, sym, ap, _∙_, subst}
 use mathlib.Core.Logic.{_⊎_, inl, inr}
-use mathlib.Core.Bool.{Bool, true, false, not, cond}
+use mathlib.Core.Bool.{Bool, not}
 use mathlib.Core.List.{List, [], _∷_, map, List·Memᴰ·head as here, List·Memᴰ·tail as there}
 use native.Mathlib.Omega.{arith}
 use native.Mathlib.Decide.{decLe, decLt}
-use lib.Dec.{T, leb, ltb, ltb→lt}
+use lib.Dec.{T, ltb}
 use borrow.Author.Tests.{le-leb, lt-leb, lt-ltb, le-ltb}
-use lib.ListN.{length, length-map}
+use lib.ListN.{length-map}
 use Rattle.lists.specs.Lists.{_∈_, keep}
 use Rattle.lists.proofs.Bools.{bool, is-true, is-false}
-use Rattle.lists.proofs.Members.{keep-yes, keep-no, keep-in, map-in}
+use Rattle.lists.proofs.Members.{keep-yes, keep-no, map-in}
 use Rattle.lists.proofs.Order.{Sorted, sorted-keep, sorted-map}
-use Rattle.tasks.specs.declared.Phase.{Phase}
-use Rattle.tasks.specs.declared.Phase.the-variants.{Ended, Waiting, Running}
 use Rattle.tasks.specs.declared.Task.{Task}
 use Rattle.tasks.specs.Tasks.{finish, phaseAt, live, inPhase, stamped, freeSlot}
-use Rattle.tasks.proofs.Laws.{Share, phase-waiting, phase-running, phase-ended}
+use Rattle.tasks.proofs.Laws.{phase-waiting, phase-running}
 use Rattle.slots.specs.Slots.{liveIn, agedTo, allAgedTo}
 use Rattle.slots.proofs.Soundness.{InPhase, running, waiting, SoundTask, Together, Sound}
 

@@ -1,21 +1,18 @@
 -- Booking and withdrawal over the slots: a sound board stays sound, and every other task stands where it was. Assumes nothing.
-use Prim.Native.Nat.{ℕ, zero, suc, _+_, _≤_, _<_}
-use mathlib.Core.Path.{_≡_, refl, sym, ap, _∙_, subst}
+use Prim.Native.Nat.{ℕ, _<_}
+use mathlib.Core.Path.{_≡_, sym, _∙_, subst}
 use mathlib.Core.Logic.{_⊎_, inl, inr}
-use mathlib.Core.Bool.{Bool, true, false, not, _&&_}
+use mathlib.Core.Bool.{Bool, not}
 use mathlib.Core.List.{List}
-use native.Mathlib.Omega.{arith}
-use lib.Dec.{T, eqb, T-not, not-T}
+use lib.Dec.{T, T-not, not-T}
 use lib.ListN.{length, getD}
-use Rattle.lists.specs.Lists.{_∈_, keep, some?, indexOf, putFirst}
-use Rattle.lists.proofs.Bools.{and-l, and-i, not-not}
-use Rattle.lists.proofs.Members.{keep-in}
-use Rattle.lists.proofs.Order.{Sorted, put-in, sorted-put}
+use Rattle.lists.specs.Lists.{_∈_, indexOf}
+use Rattle.lists.proofs.Order.{put-in, sorted-put}
 use Rattle.lists.proofs.Append.{put-there, put-keeps, length-put}
 use Rattle.tasks.specs.declared.Task.{Task}
 use Rattle.tasks.specs.Tasks.{live, freeSlot}
-use Rattle.tasks.proofs.Laws.{Share, share-sym}
-use Rattle.slots.specs.Slots.{liveIn, named, withBooked, withoutNamed}
+use Rattle.tasks.proofs.Laws.{share-sym}
+use Rattle.slots.specs.Slots.{named, withBooked, withoutNamed}
 use Rattle.slots.proofs.Soundness.{SoundTask, Together, Sound, in-phase-live}
 
 -- a test of free slots

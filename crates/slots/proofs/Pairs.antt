@@ -1,14 +1,14 @@
 -- The pair test: counting clashes is testing that all are apart, and what the arrays say of two tasks is what the tasks say. Assumes nothing.
-use Prim.Native.Nat.{ℕ, suc, _+_, _-_, _≤_, _<_, max, min}
-use mathlib.Core.Path.{_≡_, refl, sym, ap, ap₂, _∙_, subst}
+use Prim.Native.Nat.{ℕ, _+_, _-_, _≤_, _<_}
+use mathlib.Core.Path.{_≡_, refl, sym, ap, _∙_, subst}
 use mathlib.Core.Bool.{Bool, true, false, not, cond, _&&_, _||_}
-use mathlib.Core.List.{List, [], _∷_, map}
+use mathlib.Core.List.{List}
 use native.Mathlib.Omega.{arith}
 use lib.Dec.{T, leb, ltb, eqb, le→leb, eqb→eq}
 use lib.ListN.{length, getD}
 use borrow.Author.Tests.{eq-eqb, ne-eqb, leb-true}
-use Rattle.lists.specs.Lists.{_∈_, keep, all?, pairwise?, range}
-use Rattle.lists.proofs.Bools.{and-l, and-r, and-i, same-bool, is-true}
+use Rattle.lists.specs.Lists.{all?, pairwise?, range}
+use Rattle.lists.proofs.Bools.{and-l, and-r, same-bool, is-true}
 use Rattle.lists.proofs.Members.{keep-in, getD-in, all-pass, length-keep}
 use Rattle.lists.proofs.Append.{and-true, all-range-more, range-first, holds-at, pairwise-range}
 use Rattle.tasks.specs.declared.Task.{Task}

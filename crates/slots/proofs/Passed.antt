@@ -1,19 +1,17 @@
 -- The survey's loop: what stands after some slots, and that one slot more keeps it. Assumes nothing.
-use Prim.Native.Nat.{ℕ, suc, _+_, _%_, _≤_, _<_, min}
-use mathlib.Core.Path.{_≡_, refl, sym, ap, _∙_, subst}
-use mathlib.Core.Logic.{_⊎_, inl, inr}
+use Prim.Native.Nat.{ℕ, _+_, _%_, _≤_, _<_, min}
+use mathlib.Core.Path.{_≡_, refl, ap, _∙_}
 use mathlib.Core.Bool.{Bool, true, false, not, cond, _&&_}
-use mathlib.Core.List.{List, [], _∷_, _++_, map}
+use mathlib.Core.List.{List, [], _∷_, map}
 use native.Mathlib.Omega.{arith}
 use lib.Dec.{T}
 use lib.ListN.{length, take, drop, set, getD, length-append, length-set}
 use lib.Seq.{take-all, drop-length}
 use Rattle.lists.specs.Lists.{all?, keep, indexOf}
-use Rattle.lists.proofs.Bools.{and-l, and-r, is-true, is-false}
+use Rattle.lists.proofs.Bools.{and-l, and-r, is-true}
 use Rattle.lists.proofs.Append.{all-more, keep-more, keep-same, index-left, index-most, store-more, store-none}
 use Rattle.tasks.specs.declared.Task.{Task}
 use Rattle.tasks.specs.Tasks.{finish, live, freeSlot}
-use Rattle.slots.specs.declared.Findings.{Findings}
 use Rattle.slots.specs.Slots.{liveIn, slotSound}
 use Rattle.slots.specs.Survey.{Holds, Surveyed}
 use Rattle.slots.proofs.Soundness.{task-out}

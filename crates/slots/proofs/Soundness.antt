@@ -1,20 +1,18 @@
 -- Soundness as a record of plain clauses, decided by the test. Assumes nothing.
 use Prim.Native.Nat.{ℕ, suc, _+_, _≤_, _<_}
-use mathlib.Core.Path.{_≡_, refl, sym, ap, _∙_, subst}
-use mathlib.Core.Logic.{_⊎_, inl, inr}
+use mathlib.Core.Path.{_≡_, refl}
 use mathlib.Core.Bool.{Bool, true, false, not, cond, _&&_, _||_}
-use mathlib.Core.List.{List, [], _∷_, List·Memᴰ·head as here, List·Memᴰ·tail as there}
+use mathlib.Core.List.{List, [], _∷_}
 use native.Mathlib.Omega.{arith}
-use lib.Dec.{T, leb, ltb, eqb, leb→le, le→leb, ltb→lt, lt→ltb, nleb→lt, eqb→eq, eqb-refl, not-T, T-not}
+use lib.Dec.{T, leb, eqb, leb→le, le→leb, ltb→lt, nleb→lt, eqb→eq, eqb-refl, not-T, T-not}
 use lib.ListN.{length}
-use Rattle.lists.specs.Lists.{_∈_, keep, all?, pairwise?}
+use Rattle.lists.specs.Lists.{_∈_, all?, pairwise?}
 use Rattle.lists.proofs.Bools.{and-l, and-r, and-i, is-true, is-false}
 use Rattle.lists.proofs.Members.{all-pass, pass-all}
 use Rattle.lists.proofs.Order.{Sorted, empty, next}
 use Rattle.tasks.specs.declared.Phase.{Phase}
 use Rattle.tasks.specs.declared.Phase.the-variants.{Ended, Waiting, Running}
 use Rattle.tasks.specs.declared.Task.{Task}
-use Rattle.tasks.specs.Numbers.{within}
 use Rattle.tasks.specs.Tasks.{finish, meets, livePhase, runningPhase, live, freeSlot, zeros}
 use Rattle.tasks.proofs.Laws.{Between, within-out, within-in, Share, meets-share, share-meets, zeros-free}
 use Rattle.slots.specs.Slots.{liveIn, agree, taskSound, slotSound, together, sound}

@@ -1,15 +1,11 @@
-// The 64 slots of a board: whether they are sound, what stands in them, and what the clock makes of them.
+// The 64 slots of a board: whether each by itself is sound, which has an id, and what the clock makes of them.
 ghost use mathlib.Core.Path.{_≡_};
-ghost use mathlib.Core.Bool.{Bool, not, cond, _&&_};
-ghost use mathlib.Core.List.{List};
-ghost use Prim.Native.Nat.{ℕ, _+_, _-_, _<_, _≤_, min};
-ghost use lib.Dec.{leb, eqb};
-ghost use lib.ListN.{length, getD};
-ghost use Rattle.lists.specs.Lists.{all?, range, indexOf};
+ghost use mathlib.Core.Bool.{cond};
+ghost use Prim.Native.Nat.{_+_, _<_, _≤_, min};
+ghost use Rattle.lists.specs.Lists.{indexOf};
 ghost use Rattle.tasks.specs.declared.Task.{Task};
 ghost use Rattle.tasks.specs.Numbers.{deviceFits};
-ghost use Rattle.slots.specs.Slots.{taskSound, slotSound, sound, agedTo, allAgedTo, named};
-ghost use Rattle.slots.specs.Survey.{Surveyed, clashAt};
+ghost use Rattle.slots.specs.Slots.{taskSound, slotSound, agedTo, allAgedTo, named};
 use tasks::Task;
 
 // What one pass over the slots finds: whether each slot by itself is sound, and the live tasks taken apart into arrays of
@@ -51,7 +47,7 @@ fn task_sound(columns: u16, rows: u16, now: u32, k: Task) -> bool
 }
 
 // A live task that is sound, or a free slot of zeros.
-fn slot_sound(columns: u16, rows: u16, now: u32, k: Task) -> bool
+pub fn slot_sound(columns: u16, rows: u16, now: u32, k: Task) -> bool
     ensures { λ r. ⌜ r ≡ slotSound columns rows now k ⌝ }
 {
     if tasks::is_live(k) {
@@ -77,109 +73,6 @@ pub fn lowest(free: usize, i: usize, live: bool) -> usize
         return free;
     }
     if free < i { free } else { i }
-}
-
-// The survey of the slots. Each slot is stored at `count`, and `count` goes past it only where it is live: no branch to miss.
-pub fn survey(columns: u16, rows: u16, now: u32, tasks: [Task; 64]) -> Findings
-    ensures { λ r. ⌜ Surveyed columns rows now tasks r ⌝ }
-{
-    let mut id = [0u32; 64];
-    let mut start = [0u32; 64];
-    let mut finish = [0u32; 64];
-    let mut left = [0u32; 64];
-    let mut past = [0u32; 64];
-    let mut count: usize = 0;
-    let mut free: usize = 64;
-    let mut sound = true;
-    let mut i: usize = 0;
-    while i < 64 {
-        let k = tasks[i];
-        let well = slot_sound(columns, rows, now, k);
-        let live = tasks::is_live(k);
-        sound = sound & well;
-        id[count] = k.id;
-        start[count] = k.start;
-        finish[count] = ((k.start as u64 + k.e as u64) % 4_294_967_296) as u32;
-        left[count] = k.column as u32;
-        past[count] = k.column as u32 + k.w as u32;
-        count += one_if(live);
-        free = lowest(free, i, live);
-        i += 1;
-    }
-    Findings {
-        id: id,
-        start: start,
-        finish: finish,
-        left: left,
-        past: past,
-        count: count,
-        free: free,
-        sound: sound,
-    }
-}
-
-// 1 for a clash.
-fn hit(clash: bool) -> u32
-    ensures { λ r. ⌜ r ≡ cond clash 1 0 ⌝ }
-    ensures { λ r. ⌜ r ≤ 1 ⌝ }
-{
-    if clash { 1 } else { 0 }
-}
-
-// How many of the tasks after i, up to n, clash with task i. They are counted and the walk is not left early: that is done
-// several at a time.
-fn clashes<'a>(
-    id: &'a [u32; 64],
-    start: &'a [u32; 64],
-    finish: &'a [u32; 64],
-    left: &'a [u32; 64],
-    past: &'a [u32; 64],
-    i: usize,
-    n: usize,
-) -> u32
-    requires { ⌜ (i < n) × (n ≤ 64) ⌝ }
-    ensures { λ r. ⌜ eqb r 0 ≡ all? (λ j. not (clashAt (now (id .entry)) (now (start .entry)) (now (finish .entry)) (now (left .entry)) (now (past .entry)) i j)) (range (i + 1) (n - (i + 1))) ⌝ }
-{
-    let name = id[i];
-    let from = start[i];
-    let to = finish[i];
-    let first = left[i];
-    let end = past[i];
-    let mut hits: u32 = 0;
-    let mut j = i + 1;
-    while j < n {
-        let same = name == id[j];
-        let crossed = (from < finish[j]) & (start[j] < to) & (first < past[j]) & (left[j] < end);
-        hits += hit(same | crossed);
-        j += 1;
-    }
-    hits
-}
-
-// The slots that were surveyed make a sound board: device and clock, each slot, each pair of live tasks.
-pub fn found_sound(columns: u16, rows: u16, now: u32, v: Findings) -> bool
-    ensures { λ r. ⌜ ((ks : List Task) → Surveyed columns rows now ks v → r ≡ sound columns rows now ks) ⌝ }
-{
-    let fits = device_fits(columns, rows);
-    if !(fits & (now <= 2_000_000_000) & v.sound & (v.count <= 64)) {
-        return false;
-    }
-    let n = v.count;
-    let mut i: usize = 0;
-    while i < n {
-        if 0 < clashes(&v.id, &v.start, &v.finish, &v.left, &v.past, i, n) {
-            return false;
-        }
-        i += 1;
-    }
-    true
-}
-
-// Whether the slots make a sound board.
-pub fn is_sound(columns: u16, rows: u16, now: u32, tasks: [Task; 64]) -> bool
-    ensures { λ r. ⌜ r ≡ sound columns rows now tasks ⌝ }
-{
-    found_sound(columns, rows, now, survey(columns, rows, now, tasks))
 }
 
 // A slot at an instant: a task that has finished leaves it free, another has the phase of the instant.

@@ -2,17 +2,16 @@
 use Prim.Native.Nat.{ℕ, suc, _+_, _-_, _*_, _≤_, _<_}
 use mathlib.Core.Path.{_≡_, refl, sym, ap, _∙_, subst}
 use mathlib.Core.Logic.{_⊎_, inl, inr}
-use mathlib.Core.Bool.{Bool, true, false, not, cond, _&&_, _||_}
+use mathlib.Core.Bool.{Bool, true, false, not, cond, _||_}
 use mathlib.Core.List.{List}
 use native.Mathlib.Omega.{arith}
-use native.Mathlib.Decide.{decLe, decLt, ℕ-discrete as decEq}
-use lib.Dec.{T, leb, ltb, eqb, eqb→eq, not-T, T-not, ltb→lt, leb→le, nltb→le, nleb→lt}
-use borrow.Author.Tests.{eq-eqb, ne-eqb}
+use native.Mathlib.Decide.{decLt, ℕ-discrete as decEq}
+use lib.Dec.{T, leb, ltb, eqb, eqb→eq, ltb→lt, leb→le, nltb→le, nleb→lt}
 use lib.ListN.{getD}
 use Rattle.lists.specs.Lists.{_∈_}
 use Rattle.lists.proofs.Bools.{or-cases, bool, is-true, is-false}
 use Rattle.columns.specs.Columns.{columns, Run, runs}
-use Rattle.columns.proofs.Runs.{Lies, Longest, runs-longest, longest-runs}
+use Rattle.columns.proofs.Runs.{Longest, runs-longest, longest-runs}
 use Rattle.stuffing.specs.Fit.{Jumps, key, none, NextFit}
 
 -- best is the least key past after among the longest runs that begin before `from` and are wide enough, or none

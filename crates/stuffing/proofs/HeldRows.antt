@@ -1,6 +1,6 @@
 -- The row of held columns: after i tasks it says what those hold at t, and one task more keeps that. Assumes nothing.
 use Prim.Native.Nat.{ℕ, zero, suc, _+_, _≤_, _<_}
-use mathlib.Core.Path.{_≡_, refl, sym, ap, ap₂, _∙_, subst}
+use mathlib.Core.Path.{_≡_, refl, sym, ap, _∙_, subst}
 use mathlib.Core.Logic.{_⊎_, inl, inr}
 use mathlib.Core.Bool.{Bool, true, false, not, cond, _&&_}
 use mathlib.Core.List.{List}
@@ -11,9 +11,8 @@ use borrow.Author.Tests.{le-leb, lt-leb, lt-ltb, le-ltb, ne-eqb}
 use lib.ListN.{length, getD, replicate}
 use Rattle.lists.specs.Lists.{some?, range}
 use Rattle.lists.proofs.Append.{and-true}
-use Rattle.tasks.specs.Tasks.{holds}
 use Rattle.planners.specs.Planners.{free}
-use Rattle.planners.specs.Lent.{taskAt, tasksOf, OnDevice}
+use Rattle.planners.specs.Lent.{tasksOf, OnDevice}
 use Rattle.planners.proofs.Lent.{free-more, holds-at}
 use Rattle.stuffing.specs.Fit.{HeldTo, Jumps, Row}
 

@@ -1,17 +1,16 @@
 -- The two walks of Stuffing: the tries at a time give its first candidate, the visits give the answer. Assumes nothing.
-use Prim.Native.Nat.{ℕ, suc, _+_, _-_, _*_, _%_, _≤_, _<_}
+use Prim.Native.Nat.{ℕ, _-_, _*_, _%_, _≤_, _<_}
 use mathlib.Core.Path.{_≡_, refl, sym, ap, _∙_, subst}
 use mathlib.Core.Logic.{_⊎_, inl, inr}
-use mathlib.Core.Bool.{Bool, true, false, not, _&&_}
-use mathlib.Core.Option.{Option, none as nothing, some}
+use mathlib.Core.Bool.{Bool, true, false, not}
+use mathlib.Core.Option.{some}
 use mathlib.Core.List.{List, [], map}
 use native.Mathlib.Omega.{arith}
-use native.Mathlib.Decide.{decLe}
+use native.Mathlib.Decide.{decLe, decLt}
 use lib.Dec.{T, eqb}
 use lib.ListN.{getD}
 use Rattle.lists.specs.Lists.{_∈_, some?, keep, head?}
 use Rattle.lists.proofs.Members.{map-in, in-map}
-use Rattle.lists.proofs.Order.{Sorted}
 use Rattle.ways.specs.Ways.{pair, isOpen}
 use Rattle.tasks.specs.declared.Task.{Task}
 use Rattle.tasks.specs.declared.Submission.{Submission}
@@ -19,15 +18,15 @@ use Rattle.tasks.specs.Tasks.{finish, meets, stamped, booked}
 use Rattle.columns.specs.Columns.{columns, Run, runs, bestFit}
 use Rattle.columns.proofs.Runs.{Lies, runs-lie, runs-same}
 use Rattle.columns.proofs.BestFit.{Better, narrower, lefter, best-sorted, fit-in, in-fit}
-use Rattle.planners.specs.declared.Found.{Found}
 use Rattle.planners.specs.declared.Found.the-variants.{Nothing, At}
 use Rattle.planners.specs.Openings.{Place, ways}
-use Rattle.planners.specs.Planners.{free, leftEdge, visited, clearOfWaiting, candidates, stuffing}
-use Rattle.planners.specs.Lent.{foundOf, taskAt, tasksOf, OnDevice, asked}
+use Rattle.planners.specs.Planners.{free, leftEdge, clearOfWaiting, candidates, stuffing}
+use Rattle.planners.specs.Lent.{foundOf, tasksOf, OnDevice, asked}
 use Rattle.planners.proofs.Planners.{waiting-is-all}
 use Rattle.planners.proofs.Lent.{task-in, in-tasks, finish-at}
 use Rattle.planners.proofs.Walk.{Visits, visits-hit, visits-none, visits-on, first-kept, none-kept}
-use Rattle.stuffing.specs.Fit.{meetsAt, Row, key, none, NextFit, NextFinish}
+use Rattle.held.specs.Held.{NextFinish}
+use Rattle.stuffing.specs.Fit.{meetsAt, Row, key, none, NextFit}
 
 -- what a row says of the runs is what the tasks say
 pub fit-same : {W w after r : ℕ} {passes : ℕ → Bool} {row : List ℕ} → Row passes W row → NextFit (λ c. eqb (getD row c 0) 0) W w after r → NextFit passes W w after r
@@ -165,29 +164,23 @@ module _ (W now n : ℕ) (s f l r : List ℕ) (o : OnDevice W n s f l r) (w e d 
   unfolding stuffing
   stuffs-hit v q = sym (ap foundOf (visits-hit W now ts (asked w e d) (candidates W now ts (asked w e d)) (map finish ts) v q))
 
+  -- a finish past t is not before the next one
+  not-before : {t u : ℕ} → NextFinish f n t u → (y : ℕ) → y ∈ map finish ts → (y ≤ t) ⊎ (u ≤ y)
+  not-before {t} {u} x y m = let k = time-at y m in pick (k .0) (k .1) (k .2) (decLt t y)
+    where
+      pick : (i : ℕ) → i < n → y ≡ getD f i 0 → Dec (t < y) → (y ≤ t) ⊎ (u ≤ y)
+      pick i h z (yes p) = inr (omega (arith, x .least i h (omega arith)))
+      pick i h z (no p) = inl (omega arith)
+
   pub stuffs-none : {t u : ℕ} → Stuffs W now ts w e d t → candidates W now ts (asked w e d) t ≡ [] → NextFinish f n t u → d - e < u → e ≤ d → Nothing ≡ foundOf (stuffing W now ts (asked w e d))
   unfolding stuffing
-  stuffs-none {t} {u} v q x h g = sym (ap foundOf (visits-none W now ts (asked w e d) (candidates W now ts (asked w e d)) (map finish ts) v q far))
-    where
-      far : (y : ℕ) → y ∈ map finish ts → (y ≤ t) ⊎ (d < y + e)
-      far y m = let k = time-at y m in pick (k .0) (x .least (k .0) (k .1)) (k .2)
-        where
-          pick : (i : ℕ) → (getD f i 0 ≤ t) ⊎ (u ≤ getD f i 0) → y ≡ getD f i 0 → (y ≤ t) ⊎ (d < y + e)
-          pick i (inl p) z = inl (omega arith)
-          pick i (inr p) z = inr (omega arith)
+  stuffs-none {t} {u} v q x h g = sym (ap foundOf (visits-none W now ts (asked w e d) (candidates W now ts (asked w e d)) (map finish ts) v q (not-before x) (omega arith)))
 
-  pub stuffs-on : {t u : ℕ} → Stuffs W now ts w e d t → candidates W now ts (asked w e d) t ≡ [] → NextFinish f n t u → u ≤ d - e → e ≤ d → d ≤ 2000000000 → (t < u) × Stuffs W now ts w e d u
+  pub stuffs-on : {t u : ℕ} → Stuffs W now ts w e d t → candidates W now ts (asked w e d) t ≡ [] → NextFinish f n t u → u ≤ d - e → e ≤ d → d ≤ 2000000000 → Stuffs W now ts w e d u
   stuffs-on {t} {u} v q x h g k = go (x .one)
     where
-      far : (y : ℕ) → y ∈ map finish ts → (y ≤ t) ⊎ (u ≤ y)
-      far y m = let b = time-at y m in pick (b .0) (x .least (b .0) (b .1)) (b .2)
-        where
-          pick : (i : ℕ) → (getD f i 0 ≤ t) ⊎ (u ≤ getD f i 0) → y ≡ getD f i 0 → (y ≤ t) ⊎ (u ≤ y)
-          pick i (inl p) z = inl (omega arith)
-          pick i (inr p) z = inr (omega arith)
-
-      go : (u ≡ none) ⊎ ((i : ℕ) × (i < n) × (t < getD f i 0) × (getD f i 0 ≡ u)) → (t < u) × Stuffs W now ts w e d u
+      go : (u ≡ none) ⊎ ((i : ℕ) × (i < n) × (getD f i 0 ≡ u)) → Stuffs W now ts w e d u
       go (inl z) = absurd (omega arith)
       go (inr z) =
-          let p : t < u = omega (arith, z .2, z .3) in
-          (p, visits-on W now ts (asked w e d) (candidates W now ts (asked w e d)) (map finish ts) v q (subst (λ y. y ∈ map finish ts) (z .3) (at-time (z .0) (z .1))) p (omega arith) far)
+          visits-on W now ts (asked w e d) (candidates W now ts (asked w e d)) (map finish ts) v q (not-before x)
+          (subst (λ y. y ∈ map finish ts) (z .2) (at-time (z .0) (z .1))) (x .after) (omega arith)

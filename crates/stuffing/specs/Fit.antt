@@ -35,7 +35,7 @@ pub record Row (passes : ℕ → Bool) (W : ℕ) (row : List ℕ) : Type 0 where
 abbrev pub key : Run → ℕ
 key r = r .size * 512 + r .left
 
--- no key, no finish
+-- no key
 abbrev pub none : ℕ
 none = 4294967295
 
@@ -43,8 +43,3 @@ none = 4294967295
 pub record NextFit (passes : ℕ → Bool) (W w after r : ℕ) : Type 0 where
   pub least : (q : Run) → q ∈ runs passes (columns W) → w ≤ q .size → after < key q → r ≤ key q
   pub one : (r ≡ none) ⊎ ((q : Run) × (q ∈ runs passes (columns W)) × (w ≤ q .size) × (after < key q) × (key q ≡ r))
-
--- r is the least of the first n finishes past t, or none
-pub record NextFinish (finish : List ℕ) (n t r : ℕ) : Type 0 where
-  pub least : (i : ℕ) → i < n → (getD finish i 0 ≤ t) ⊎ (r ≤ getD finish i 0)
-  pub one : (r ≡ none) ⊎ ((i : ℕ) × (i < n) × (t < getD finish i 0) × (getD finish i 0 ≡ r))

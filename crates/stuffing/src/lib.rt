@@ -1,16 +1,16 @@
 // Stuffing (Algorithm 2 of the source) over the live tasks as arrays of numbers. Reference is its first instant.
 ghost use mathlib.Core.Path.{_≡_};
-ghost use mathlib.Core.Bool.{cond, _&&_, _||_};
-ghost use Prim.Native.Nat.{ℕ, suc, _+_, _-_, _*_, _≤_, _<_};
+ghost use mathlib.Core.Bool.{cond, _||_};
+ghost use Prim.Native.Nat.{_+_, _-_, _*_, _≤_, _<_};
 ghost use lib.Dec.{leb, ltb, eqb};
 ghost use lib.ListN.{length, getD};
 ghost use Rattle.lists.specs.Lists.{some?};
 ghost use Rattle.planners.specs.Planners.{free, stuffing};
 ghost use Rattle.planners.specs.Lent.{foundOf, tasksOf, OnDevice, asked};
-ghost use Rattle.stuffing.specs.Fit.{meetsAt, HeldTo, Row, Jumps, NextFit, NextFinish};
+ghost use Rattle.stuffing.specs.Fit.{meetsAt, HeldTo, Row, Jumps, NextFit};
 use planners::Found;
 
-// No number: past every key and every finish.
+// No number: past every key.
 const NONE: u32 = 0xffff_ffff;
 
 // A number of a row, widened: of an element it asks nothing but the index.
@@ -129,27 +129,6 @@ fn meets_any<'a>(
     false
 }
 
-// x where it lies past t and before best, else best.
-fn nearer(x: u32, t: u32, best: u32) -> u32
-    ensures { λ r. ⌜ r ≡ cond (ltb t x && ltb x best) x best ⌝ }
-{
-    if (t < x) & (x < best) { x } else { best }
-}
-
-// The least finish past t, or NONE.
-fn next_finish(finish: &[u32; 64], count: usize, t: u32) -> u32
-    requires { ⌜ count ≤ 64 ⌝ }
-    ensures { λ r. ⌜ NextFinish (now (finish .entry)) count t r ⌝ }
-{
-    let mut best = NONE;
-    let mut i: usize = 0;
-    while i < count {
-        best = nearer(finish[i], t, best);
-        i += 1;
-    }
-    best
-}
-
 // The first candidate without a conflict ends both walks: through the visited times, and through the free intervals of each
 // in best-fit order.
 pub fn stuffing<'a>(
@@ -185,7 +164,7 @@ pub fn stuffing<'a>(
                 break 'visits Found::At { column, start: t };
             }
         }
-        let next = next_finish(finish, count, t);
+        let next = held::next_finish(finish, count, t);
         if last < next {
             break 'visits Found::Nothing;
         }

@@ -1,19 +1,16 @@
 -- What the tests of `specs/` mean: sharing a column at a tick is Definition 1 of the source; a phase is its instants. Assumes nothing.
-use Prim.Native.Nat.{ℕ, suc, _+_, _≤_, _<_, max, min}
-use mathlib.Core.Path.{_≡_, refl, sym, ap, _∙_, subst}
-use mathlib.Core.Logic.{_⊎_, inl, inr, _↔_}
-use mathlib.Core.Bool.{Bool, true, false, not, cond, _&&_}
+use Prim.Native.Nat.{ℕ, _+_, _≤_, _<_, max, min}
+use mathlib.Core.Path.{_≡_, sym, ap, _∙_, subst}
+use mathlib.Core.Bool.{true, false, _&&_}
 use native.Mathlib.Omega.{arith}
 use native.Mathlib.Decide.{decLe, decLt}
-use lib.Dec.{T, leb, ltb, eqb, leb→le, le→leb, ltb→lt, lt→ltb, eqb→eq, not-T, T-not}
+use lib.Dec.{T, leb, ltb, leb→le, le→leb, ltb→lt, lt→ltb, eqb→eq}
 use borrow.Author.Tests.{lt-ltb, le-ltb}
 use Rattle.lists.proofs.Bools.{and-l, and-r, and-i, same-bool}
-use Rattle.tasks.specs.declared.Phase.{Phase}
 use Rattle.tasks.specs.declared.Phase.the-variants.{Ended, Waiting, Running}
 use Rattle.tasks.specs.declared.Task.{Task}
-use Rattle.tasks.specs.declared.Submission.{Submission}
 use Rattle.tasks.specs.Numbers.{within}
-use Rattle.tasks.specs.Tasks.{finish, overlap, meets, covers, holds, phaseAt, waitingPhase, runningPhase, livePhase, live, inPhase, stamped, freeSlot, zeros, booked}
+use Rattle.tasks.specs.Tasks.{finish, overlap, meets, covers, holds, phaseAt, runningPhase, freeSlot, zeros}
 
 -- a number from lo to hi
 pub record Between (lo hi n : ℕ) : Type 0 where
@@ -168,9 +165,3 @@ zeros-free t h p = λ i. record {
   column = eqb→eq (t .column) 0 (search (and-l, and-r) depth 9) i;
   phase = p i;
 }
-
--- only waiting is waiting
-pub waits-only : (p : Phase) → T (waitingPhase p) → p ≡ Waiting
-waits-only Ended t = absurd t
-waits-only Waiting t = refl
-waits-only Running t = absurd t

@@ -8,12 +8,7 @@ use native.Mathlib.Omega.{arith}
 use borrow.Author.Tests.{ltb-true, ltb-false}
 use lib.Dec.{ltb}
 use lib.ListN.{getD}
-use Rattle.text.specs.Text.{decimalIn, decimal}
-
--- the value of digits that are read from the left, behind those of a value
-unfoldable pub value : ℕ → List ℕ → ℕ
-value v [] = v
-value v (d ∷ ds) = value (v * 10 + (d - 48)) ds
+use Rattle.text.specs.Text.{decimalIn, decimal, value}
 
 value-append : (v : ℕ) (xs ys : List ℕ) → value v (xs ++ ys) ≡ value (value v xs) ys
 unfolding value

@@ -1,5 +1,5 @@
 -- Numbers as text, in ASCII: a number, a row of numbers, rows. Assumes nothing.
-use Prim.Native.Nat.{ℕ, zero, suc, _+_, _/_, _%_}
+use Prim.Native.Nat.{ℕ, zero, suc, _+_, _-_, _*_, _/_, _%_}
 use mathlib.Core.Bool.{cond}
 use mathlib.Core.List.{List, [], _∷_, _++_, map}
 use lib.Dec.{ltb}
@@ -14,6 +14,11 @@ decimalIn (suc most) x = cond (ltb x 10) ((48 + x) ∷ []) (decimalIn most (x / 
 -- the decimal digits of a number, the most significant first: a number has no more digits than itself and one
 unfoldable pub decimal : ℕ → List ℕ
 decimal x = decimalIn (suc x) x
+
+-- the value of digits that are read from the left, behind those of a value
+unfoldable pub value : ℕ → List ℕ → ℕ
+value v [] = v
+value v (d ∷ ds) = value (v * 10 + (d - 48)) ds
 
 -- the words of a line, parted by one space (32) and ended by a newline (10)
 unfoldable pub lineText : List (List ℕ) → List ℕ

@@ -1,17 +1,17 @@
 -- The openings are every opening, each once, in order; what each move of a search leaves of them; asking on reaches the end. Assumes nothing.
-use Prim.Native.Nat.{ℕ, zero, suc, _+_, _-_, _≤_, _<_}
-use mathlib.Core.Path.{_≡_, refl, sym, ap, _∙_, subst}
+use Prim.Native.Nat.{ℕ, zero, suc, _+_, _≤_, _<_}
+use mathlib.Core.Path.{_≡_, refl, sym, ap, _∙_}
 use mathlib.Core.Logic.{_⊎_, inl, inr}
-use mathlib.Core.Bool.{Bool, true, false, not, _&&_, _||_}
+use mathlib.Core.Bool.{true, _&&_}
 use mathlib.Core.List.{List, [], _∷_, _++_, map, List·Memᴰ·head as here, List·Memᴰ·tail as there, List·Memᴰ·cases-cons as cases}
 use native.Mathlib.Omega.{arith}
-use native.Mathlib.Decide.{decLe, decLt, ℕ-discrete as decEq}
-use lib.Dec.{T, leb, ltb, eqb, ltb→lt, lt→ltb, eqb→eq, eqb-refl, not-T, T-not}
-use lib.ListN.{length, take, drop, length-take, length-drop, take-append-drop}
-use Rattle.lists.specs.Lists.{_∈_, keep, some?, range, each, lastOr}
+use native.Mathlib.Decide.{decLe, ℕ-discrete as decEq}
+use lib.Dec.{T, ltb, eqb, ltb→lt, lt→ltb, eqb→eq, eqb-refl, not-T, T-not}
+use lib.ListN.{length, take, drop, length-drop, take-append-drop}
+use Rattle.lists.specs.Lists.{_∈_, keep, range, lastOr}
 use Rattle.lists.proofs.Bools.{and-l, and-r, and-i, or-cases, or-l, or-r, same-bool}
 use Rattle.lists.proofs.Members.{keep-in, in-keep, none-pass, pass-none, range-in, in-range, each-in, in-each, map-in, in-map}
-use Rattle.lists.proofs.Order.{Sorted, empty, next, Sorted·head, sorted-keep, sorted-range, sorted-map, sorted-each, sorted-unique}
+use Rattle.lists.proofs.Order.{Sorted, next, Sorted·head, sorted-keep, sorted-range, sorted-map, sorted-each, sorted-unique}
 use Rattle.ways.specs.Ways.{Pair, pair, Ways, isOpen, pairsIn, openingsIn, after, openingsAfter, askedOn}
 
 -- what is asked of places and time, and holds of columns, of a grid and of cells: `low` is a place before every place

@@ -9,7 +9,7 @@ use native.Mathlib.Omega.{arith}
 use lib.Dec.{leb, ltb, eqb, leb·zero, leb·suc-zero, leb·suc-suc}
 use lib.Arith.{digits-mod}
 use lib.ListN.{length, length-append}
-use lib.Pow.{pow-pos, shr-shr, shl-shr, shl-exact, mod-pow-add, ones-split, ones-lt, high}
+use lib.Pow.{pow-pos, shr-shr, shl-exact, mod-pow-add, ones-split, ones-lt, high}
 use lib.Bits.{bitAnd, bitOr, and-shr, or-shr, and-step, or-step, shifted-half, shifted-even}
 use lib.Count.{ones, ones-cat, trailingZeros, under}
 use Rattle.lists.specs.Lists.{keep, range}
@@ -88,9 +88,6 @@ bit-shl-low x zero j h = absurd (not-suc-le-zero h)
 bit-shl-low x (suc a) zero h = bit-zero (x * 2 ^ suc a) ∙ ap (λ (r : ℕ). eqb r 1) (shifted-even x a)
 bit-shl-low x (suc a) (suc j) h =
     bit-suc (x * 2 ^ suc a) j ∙ ap (λ (n : ℕ). bit n j) (shifted-half x a) ∙ bit-shl-low x a j (le-of-suc-le-suc h)
-
-pub bit-shl-high : (x a j : ℕ) → bit (x * 2 ^ a) (a + j) ≡ bit x j
-bit-shl-high x a j = sym (bit-shr (x * 2 ^ a) a j) ∙ ap (λ (n : ℕ). bit n j) (shl-shr x a)
 
 -- ---- a run of ones
 

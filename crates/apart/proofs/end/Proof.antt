@@ -1,6 +1,6 @@
 -- `apart::end` meets its contract: one id more each turn, then down over the slots without one. Assumes nothing.
 use Prim.Native.Nat.{ℕ, _-_, _≤_, _<_}
-use mathlib.Core.Path.{_≡_, refl, sym, _∙_}
+use mathlib.Core.Path.{_≡_}
 use native.Mathlib.Omega.{arith}
 use lib.ListN.{length, getD, length-set}
 use Rattle.apart.proofs.Ending.{EndedTo, end-none, end-more, end-all, top-none, top-less}

@@ -1,7 +1,5 @@
 -- `apart::kept` meets its contract. Assumes nothing.
-use mathlib.Core.Path.{_≡_}
 use borrow.Author.Tests.{le-leb, lt-leb}
-use borrow.Author.Needs.{needs}
 use Rattle.apart.proofs.kept.Statement.{statement}
 use Rattle.apart.proofs.kept.Tie as tie
 

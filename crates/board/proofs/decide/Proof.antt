@@ -1,8 +1,8 @@
 -- `board::decide` meets its contract: refusals first, then the planner. Assumes nothing.
-use mathlib.Core.Path.{_≡_, sym, ap, _∙_}
+use mathlib.Core.Path.{sym, ap}
 use native.Mathlib.Omega.{arith}
 use Rattle.board.specs.Untested.{boardOf}
-use Rattle.board.proofs.Submit.{on-device, ids-there, refused-same, may-ask, rejected, Settled, settled}
+use Rattle.board.proofs.Submit.{on-device, ids-there, refused-same, may-ask, rejected, settled}
 use borrow.Author.Needs.{needs}
 use Rattle.board.proofs.decide.Statement.{statement}
 use Rattle.board.proofs.decide.Tie as tie

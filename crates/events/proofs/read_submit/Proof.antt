@@ -2,7 +2,7 @@
 use native.Mathlib.Omega.{arith}
 use mathlib.Core.Path.{sym}
 use Rattle.events.proofs.Found.{whole, short}
-use Rattle.events.proofs.Fields.{field-1}
+use Rattle.fields.proofs.Fields.{field-1}
 use borrow.Author.Needs.{needs}
 use Rattle.events.proofs.read_submit.Statement.{statement}
 use Rattle.events.proofs.read_submit.Tie as tie

@@ -1,23 +1,29 @@
--- `held::next_finish` meets its contract: none of the finishes passed lies between. Assumes nothing.
+-- `held::next_finish` meets its contract: of the finishes passed none lies between, and it is one of them or none. Assumes nothing.
 use Prim.Native.Nat.{ℕ, _+_, _-_, _%_, _≤_, _<_, min}
 use mathlib.Core.Path.{_≡_}
+use mathlib.Core.Logic.{_⊎_, inl, inr}
 use mathlib.Core.List.{List}
 use native.Mathlib.Omega.{arith}
-use native.Mathlib.Decide.{ℕ-discrete as decEq}
+use native.Mathlib.Decide.{decLt, ℕ-discrete as decEq}
 use lib.ListN.{getD}
-use Rattle.held.specs.Held.{NextFinish}
+use Rattle.held.specs.Held.{none, NextFinish}
 use borrow.Author.Needs.{needs}
 use Rattle.held.proofs.next_finish.Statement.{statement}
 use Rattle.held.proofs.next_finish.Tie as tie
 
 -- `past` is what the finish lies past t + 1, where it comes after t
-one-more : (f : List ℕ) (n t best past r : ℕ) → NextFinish f n t (t + 1 + best) → past < 4294967296 → (past + (t + 1)) % 4294967296 ≡ getD f n 0 → r ≡ min past best
+one-more : (f : List ℕ) (n t best past r : ℕ) → NextFinish f n t (t + 1 + best) → t + 1 + best ≤ none → past < 4294967296 → (past + (t + 1)) % 4294967296 ≡ getD f n 0 → r ≡ min past best
     → NextFinish f (n + 1) t (t + 1 + r)
-one-more f n t best past r o p q h = record { after = omega arith; least = λ i l k. at i l k (decEq i n) }
+one-more f n t best past r o m p q h = record { after = omega arith; least = λ i l k. at i l k (decEq i n); one = is (decLt past best) (o .one) }
   where
     at : (i : ℕ) → i < n + 1 → t < getD f i 0 → Dec (i ≡ n) → t + 1 + r ≤ getD f i 0
     at i l k (yes e) = let z : t < getD f n 0 = rw e at k in rw e (omega arith)
     at i l k (no e) = omega (arith, o .least i (omega arith) k)
+
+    is : Dec (past < best) → (t + 1 + best ≡ none) ⊎ ((i : ℕ) × (i < n) × (getD f i 0 ≡ t + 1 + best)) → (t + 1 + r ≡ none) ⊎ ((i : ℕ) × (i < n + 1) × (getD f i 0 ≡ t + 1 + r))
+    is (yes l) b = inr (n, omega arith, omega arith)
+    is (no l) (inl b) = inl (omega arith)
+    is (no l) (inr b) = inr (b .0, omega (arith, b .1), omega (arith, b .2))
 
 abbrev Inv-loop : tie.InvT-loop
 Inv-loop finish count t from best₀ i₀ best i = (i ≤ count) × (from + best ≤ 4294967295) × NextFinish finish i t (from + best)
@@ -32,7 +38,7 @@ sub-best : tie.Need-sub-best Inv-loop μ-loop
 sub-best c = search needs
 
 loop-holds : tie.Need-loop-holds Inv-loop μ-loop
-loop-holds c = (omega arith, omega arith, record { after = omega arith; least = λ i h. absurd (omega arith) })
+loop-holds c = (omega arith, omega arith, record { after = omega arith; least = λ i h. absurd (omega arith); one = inl (omega arith) })
 
 mul-wrapping-sub-u32 : tie.Need-mul-wrapping-sub-u32 Inv-loop μ-loop
 mul-wrapping-sub-u32 c = search needs
@@ -55,7 +61,7 @@ loop-less c = search needs
 loop-again : tie.Need-loop-again Inv-loop μ-loop
 loop-again c =
     let l = c .before .before .before .before .loop in
-    (omega arith, omega arith, one-more _ (l .i) _ (l .best) (c .before .wrapping-sub-u32 .result) (c .lesser .result) (l .inv .2) (omega arith) (c .before .wrapping-sub-u32 .ensures) (c .lesser .ensures))
+    (omega arith, omega arith, one-more _ (l .i) _ (l .best) (c .before .wrapping-sub-u32 .result) (c .lesser .result) (l .inv .2) (l .inv .1) (omega arith) (c .before .wrapping-sub-u32 .ensures) (c .lesser .ensures))
 
 add-result : tie.Need-add-result Inv-loop μ-loop
 add-result c = search needs

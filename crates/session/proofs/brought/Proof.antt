@@ -1,5 +1,4 @@
 -- `session::brought` meets its contract. Assumes nothing.
-use mathlib.Core.Path.{_≡_, _∙_}
 use borrow.Author.Needs.{needs}
 use Rattle.session.proofs.brought.Statement.{statement}
 use Rattle.session.proofs.brought.Tie as tie

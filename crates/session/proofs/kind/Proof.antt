@@ -1,5 +1,4 @@
 -- `session::kind` meets its contract. Assumes nothing.
-use mathlib.Core.Path.{_≡_}
 use Rattle.events.specs.Records.{kindOf}
 use borrow.Author.Needs.{needs}
 use Rattle.session.proofs.kind.Statement.{statement}

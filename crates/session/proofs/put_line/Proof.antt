@@ -1,6 +1,6 @@
 -- `session::put_line` meets its contract: six stores. Assumes nothing.
 use Prim.Native.Nat.{suc, _+_}
-use mathlib.Core.Path.{_≡_, refl}
+use mathlib.Core.Path.{_≡_}
 use native.Mathlib.Omega.{arith}
 use lib.ListN.{length-set}
 use borrow.Author.Needs.{needs}

@@ -1,6 +1,6 @@
 -- `session::run` meets its contract: what is left of the recording gives what is left to do. Assumes nothing.
 use Prim.Native.Nat.{_-_}
-use mathlib.Core.Path.{refl, _∙_}
+use mathlib.Core.Path.{refl}
 use native.Mathlib.Omega.{arith}
 use lib.ListN.{length-set, length-drop}
 use Rattle.board.specs.Untested.{boardOf}

@@ -1,5 +1,5 @@
 -- `slots::aged` meets its contract: ended stays, finished is free, another is stamped. Assumes nothing.
-use mathlib.Core.Path.{_≡_, sym, _∙_}
+use mathlib.Core.Path.{sym, _∙_}
 use borrow.Author.Tests.{le-leb, lt-leb}
 use Rattle.tasks.specs.Tasks.{finish}
 use Rattle.slots.specs.Slots.{agedTo}

@@ -1,6 +1,5 @@
 -- `slots::lowest` meets its contract. Assumes nothing.
 use native.Mathlib.Omega.{arith}
-use borrow.Author.Needs.{needs}
 use Rattle.slots.proofs.lowest.Statement.{statement}
 use Rattle.slots.proofs.lowest.Tie as tie
 

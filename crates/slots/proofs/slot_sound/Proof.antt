@@ -1,5 +1,5 @@
 -- `slots::slot_sound` meets its contract: a live slot is tested as a task, another for zeros. Assumes nothing.
-use mathlib.Core.Path.{_≡_, sym, _∙_}
+use mathlib.Core.Path.{sym, _∙_}
 use Rattle.slots.specs.Slots.{slotSound}
 use borrow.Author.Needs.{needs}
 use Rattle.slots.proofs.slot_sound.Statement.{statement}

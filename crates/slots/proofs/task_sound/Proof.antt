@@ -1,6 +1,4 @@
 -- `slots::task_sound` meets its contract: it tests the clauses in the definition's order. Assumes nothing.
-use mathlib.Core.Path.{_≡_}
-use mathlib.Core.Bool.{Bool}
 use lib.Dec.{leb}
 use native.Mathlib.Numerals.{add-one}
 use Rattle.tasks.specs.Tasks.{runningPhase}

@@ -1,5 +1,4 @@
 -- `stuffing::closed` meets its contract. Assumes nothing.
-use mathlib.Core.Path.{refl}
 use borrow.Author.Needs.{needs}
 use Rattle.stuffing.proofs.closed.Statement.{statement}
 use Rattle.stuffing.proofs.closed.Tie as tie

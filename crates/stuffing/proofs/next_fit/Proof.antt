@@ -1,13 +1,10 @@
 -- `stuffing::next_fit` meets its contract: runs that have ended are weighed, and one is open. Assumes nothing.
-use Prim.Native.Nat.{suc, _-_, _≤_}
-use mathlib.Core.Path.{_≡_, sym, ap, _∙_, subst}
-use mathlib.Core.Bool.{true}
+use Prim.Native.Nat.{suc, _-_}
+use mathlib.Core.Path.{sym, _∙_, subst}
 use native.Mathlib.Omega.{arith}
 use lib.Dec.{T, eqb}
 use lib.ListN.{getD}
-use borrow.Author.Tests.{eq-eqb}
-use Rattle.stuffing.specs.Fit.{Jumps}
-use Rattle.stuffing.proofs.Fits.{Standing, stand-first, stand-on, stand-past, stand-last, Closing}
+use Rattle.stuffing.proofs.Fits.{Standing, stand-first, stand-on, stand-past, stand-last}
 use borrow.Author.Needs.{needs}
 use Rattle.stuffing.proofs.next_fit.Statement.{statement}
 use Rattle.stuffing.proofs.next_fit.Tie as tie

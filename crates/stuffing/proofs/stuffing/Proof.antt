@@ -1,6 +1,6 @@
 -- `stuffing::stuffing` meets its contract: the tries at a time give its first candidate, the visits give the answer. Assumes nothing.
-use Prim.Native.Nat.{_+_, _-_, _≤_, _<_}
-use mathlib.Core.Path.{_≡_, sym, _∙_}
+use Prim.Native.Nat.{_+_, _-_, _≤_}
+use mathlib.Core.Path.{sym, _∙_}
 use native.Mathlib.Omega.{arith}
 use Rattle.planners.specs.Lent.{tasksOf}
 use Rattle.planners.proofs.Walk.{visits-start}
@@ -65,16 +65,10 @@ tries-again c =
     tries-on _ (s .args .clock) _ _ _ (s .args .d) (s .pre .0 .wide) (i .tries .inv) n (c .before .before .if1 .left) (sym (c .before .meets-any .ensures) ∙ c .if2 .taken)
 
 next-finish-requires : tie.Need-next-finish-requires Inv-tries μ-tries Inv-visits μ-visits
-next-finish-requires c κs = search needs
+next-finish-requires c κs = (c .before .before .before .before .before .before .pre .0 .few, omega arith)
 
 visits-less : tie.Need-visits-less Inv-tries μ-tries Inv-visits μ-visits
-visits-less c =
-    let f = c .before .before .before in
-    let i = f .before .before in
-    let v = i .before .before in
-    let s = v .before in
-    let n = fit-same (i .before .held-row .ensures) (f .next-fit .ensures) in
-    omega (arith, stuffs-on _ _ _ _ _ _ _ (s .pre .0) _ _ _ (v .visits .inv .0) (tries-none _ _ _ _ _ _ (s .pre .0 .wide) (i .tries .inv) n (c .before .before .if1 .taken)) (c .before .next-finish .ensures) (omega arith) (omega arith) (omega arith) .0)
+visits-less c = omega (arith, c .before .next-finish .ensures .after)
 
 visits-again : tie.Need-visits-again Inv-tries μ-tries Inv-visits μ-visits
 visits-again c =
@@ -83,7 +77,7 @@ visits-again c =
     let v = i .before .before in
     let s = v .before in
     let n = fit-same (i .before .held-row .ensures) (f .next-fit .ensures) in
-    (stuffs-on _ _ _ _ _ _ _ (s .pre .0) _ _ _ (v .visits .inv .0) (tries-none _ _ _ _ _ _ (s .pre .0 .wide) (i .tries .inv) n (c .before .before .if1 .taken)) (c .before .next-finish .ensures) (omega arith) (omega arith) (omega arith) .1, omega arith)
+    (stuffs-on _ _ _ _ _ _ _ (s .pre .0) _ _ _ (v .visits .inv .0) (tries-none _ _ _ _ _ _ (s .pre .0 .wide) (i .tries .inv) n (c .before .before .if1 .taken)) (c .before .next-finish .ensures) (omega arith) (omega arith) (omega arith), omega arith)
 
 returns : tie.Need-returns Inv-tries μ-tries Inv-visits μ-visits
 returns c =

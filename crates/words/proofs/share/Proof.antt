@@ -1,6 +1,6 @@
 -- `words::share` meets its contract: the range, clipped to the word. Assumes nothing.
-use mathlib.Core.Path.{ap₂, _∙_}
 use mathlib.Core.Bool.{_&&_}
+use mathlib.Core.Path.{ap₂, _∙_}
 use Rattle.words.proofs.Columns.{clipped, clipped-end}
 use borrow.Author.Needs.{needs}
 use Rattle.words.proofs.share.Statement.{statement}

@@ -1,5 +1,4 @@
 -- `Board::clock_untested` meets its contract: 11, 12, or the board aged to the instant. Assumes nothing.
-use mathlib.Core.Path.{_≡_, sym, ap, _∙_}
 use borrow.Author.Tests.{lt-ltb, le-ltb}
 use Rattle.board.specs.Refusals.{refusal}
 use Rattle.board.specs.Calls.{orRefused, boardAt}

@@ -1,5 +1,5 @@
 -- `Board::new` meets its contract: a board of the size asked for, or 2 and the board of zeros. Assumes nothing.
-use mathlib.Core.Path.{_≡_, sym, ap, _∙_}
+use mathlib.Core.Path.{sym, ap, _∙_}
 use mathlib.Core.Bool.{not}
 use mathlib.Core.List.{[]}
 use Rattle.tasks.specs.Numbers.{deviceFits}

@@ -1,6 +1,6 @@
 -- `Board::submit` meets its contract: an unsound board is answered at once, another as is decided, and a place is booked. Assumes nothing.
 use Prim.Native.Nat.{ℕ}
-use mathlib.Core.Path.{_≡_, sym, ap, _∙_}
+use mathlib.Core.Path.{_≡_, sym, _∙_}
 use native.Mathlib.Omega.{arith}
 use borrow.Author.Tests.{not-true, not-false}
 use Rattle.board.proofs.Submit.{submit-unsound, promised}

@@ -1,0 +1,114 @@
+-- A line word by word: which of the definition's cases the tests of the code come to. Assumes nothing.
+use Prim.Native.Nat.{ℕ, suc, _+_, _-_, _≤_, _<_}
+use mathlib.Core.Path.{_≡_, refl, sym, ap, _∙_}
+use mathlib.Core.Bool.{true, false}
+use mathlib.Core.List.{List, [], _∷_}
+use native.Mathlib.Omega.{arith}
+use borrow.Author.Tests.{ne-eqb}
+use lib.ListN.{length, take, getD}
+use lib.Seq.{take-take, take-length}
+use Rattle.lists.specs.Lists.{indexOf, lastOr}
+use Rattle.events.specs.declared.Event.{Event}
+use Rattle.text.specs.Text.{value}
+use Rattle.wording.specs.declared.Sort.the-variants.{Hash}
+use Rattle.wording.specs.Wording.{stopsAt, same, empty, fits, wrong}
+use Rattle.lines.specs.declared.Line.{Line}
+use Rattle.lines.specs.declared.Line.the-variants.{Nothing, Says, Wrong}
+use Rattle.lines.specs.Lines.{lessReturn, bare, plannerOf, saidOr, asks, submitBehind, boardLine, submitLine, clockLine, withdrawLine, saidBy, referenceName, horizonName, stuffingName, fullName, boardName, submitName, clockName, withdrawName}
+
+-- a word that is wrong, and none
+pub said-wrong : (kind n : ℕ) (event : Event) {r w : ℕ} → r ≡ w → (r ≡ 0 → ⊥) → Wrong kind (r + n) ≡ saidOr kind n w event
+unfolding saidOr
+said-wrong kind n event {r} {w} e h = rw (← e, ne-eqb r 0 h)
+
+pub said-right : (kind n : ℕ) {event said : Event} {r w : ℕ} → r ≡ w → r ≡ 0 → said ≡ event → Says said ≡ saidOr kind n w event
+unfolding saidOr
+said-right kind n {event} {said} {r} {w} e h k = rw (← e, h) (ap Says k)
+
+-- A PLANNER by name or by number
+module _ (p : List ℕ) where
+  pub planner-0 : same p referenceName ≡ true → _≡_ {A = ℕ} 0 (plannerOf p)
+  unfolding plannerOf
+  planner-0 y = rw (y)
+
+  pub planner-1 : same p referenceName ≡ false → same p horizonName ≡ true → _≡_ {A = ℕ} 1 (plannerOf p)
+  unfolding plannerOf
+  planner-1 n0 y = rw (n0, y)
+
+  pub planner-2 : same p referenceName ≡ false → same p horizonName ≡ false → same p stuffingName ≡ true → _≡_ {A = ℕ} 2 (plannerOf p)
+  unfolding plannerOf
+  planner-2 n0 n1 y = rw (n0, n1, y)
+
+  pub planner-3 : same p referenceName ≡ false → same p horizonName ≡ false → same p stuffingName ≡ false → same p fullName ≡ true → _≡_ {A = ℕ} 3 (plannerOf p)
+  unfolding plannerOf
+  planner-3 n0 n1 n2 y = rw (n0, n1, n2, y)
+
+  pub planner-4 : same p referenceName ≡ false → same p horizonName ≡ false → same p stuffingName ≡ false → same p fullName ≡ false → fits 255 p ≡ true → value 0 p ≡ plannerOf p
+  unfolding plannerOf
+  planner-4 n0 n1 n2 n3 y = rw (n0, n1, n2, n3, y)
+
+  pub planner-5 : same p referenceName ≡ false → same p horizonName ≡ false → same p stuffingName ≡ false → same p fullName ≡ false → fits 255 p ≡ false → _≡_ {A = ℕ} 256 (plannerOf p)
+  unfolding plannerOf
+  planner-5 n0 n1 n2 n3 y = rw (n0, n1, n2, n3, y)
+
+-- A LINE by its first word
+module _ (name : List ℕ) (ws : List (List ℕ)) where
+  pub said-nothing : empty name ≡ true → Nothing ≡ saidBy name ws
+  unfolding saidBy
+  said-nothing e = rw e
+
+  pub said-board : empty name ≡ false → same name boardName ≡ true → boardLine ws ≡ saidBy name ws
+  unfolding saidBy
+  said-board e y = rw (e, y)
+
+  pub said-submit : empty name ≡ false → same name boardName ≡ false → same name submitName ≡ true → submitLine ws ≡ saidBy name ws
+  unfolding saidBy
+  said-submit e n0 y = rw (e, n0, y)
+
+  pub said-clock : empty name ≡ false → same name boardName ≡ false → same name submitName ≡ false → same name clockName ≡ true → clockLine ws ≡ saidBy name ws
+  unfolding saidBy
+  said-clock e n0 n1 y = rw (e, n0, n1, y)
+
+  pub said-withdraw : empty name ≡ false → same name boardName ≡ false → same name submitName ≡ false → same name clockName ≡ false → same name withdrawName ≡ true → withdrawLine ws ≡ saidBy name ws
+  unfolding saidBy
+  said-withdraw e n0 n1 n2 y = rw (e, n0, n1, n2, y)
+
+  pub said-other : empty name ≡ false → same name boardName ≡ false → same name submitName ≡ false → same name clockName ≡ false → same name withdrawName ≡ false → Wrong 0 1 ≡ saidBy name ws
+  unfolding saidBy
+  said-other e n0 n1 n2 n3 = rw (e, n0, n1, n2, n3)
+
+-- A SUBMISSION: its planner, then its numbers
+module _ (p : List ℕ) (ws : List (List ℕ)) where
+  pub submit-planner : plannerOf p ≡ 256 → Wrong 2 2 ≡ submitBehind p ws
+  unfolding submitBehind
+  submit-planner e = rw e
+
+  pub submit-numbers : {line : Line} → (plannerOf p ≡ 256 → ⊥)
+      → line ≡ saidOr 2 2 (wrong 1 (4294967295 ∷ 65535 ∷ 65535 ∷ 4294967295 ∷ 4294967295 ∷ []) ws) (asks (plannerOf p) ws) → line ≡ submitBehind p ws
+  unfolding submitBehind
+  submit-numbers n e = rw (ne-eqb (plannerOf p) 256 n) e
+
+-- A CARRIAGE RETURN at the end
+last-at : (d : ℕ) (l : List ℕ) → 0 < length l → lastOr d l ≡ getD l (length l - 1) 0
+unfolding lastOr
+last-at d [] h = absurd (omega arith)
+last-at d (x ∷ []) h = refl
+last-at d (x ∷ y ∷ ys) h = let z : suc (suc (length ys)) - 1 ≡ suc (suc (length ys) - 1) = omega arith in rw z (last-at x (y ∷ ys) (omega arith))
+
+pub less-none : (l : List ℕ) → length l ≡ 0 → [] ≡ lessReturn l
+unfolding lessReturn lastOr
+less-none [] e = refl
+less-none (x ∷ xs) e = absurd (omega arith)
+
+pub less-one : (l : List ℕ) → 0 < length l → getD l (length l - 1) 0 ≡ 13 → take (length l - 1) l ≡ lessReturn l
+unfolding lessReturn
+less-one l h e = rw (last-at 0 l h, e)
+
+pub less-same : (l : List ℕ) → 0 < length l → (getD l (length l - 1) 0 ≡ 13 → ⊥) → take (length l) l ≡ lessReturn l
+unfolding lessReturn
+less-same l h e = rw (last-at 0 l h, ne-eqb (getD l (length l - 1) 0) 13 e) (take-length l)
+
+-- WHAT STANDS BEFORE a comment
+pub before-comment : (l : List ℕ) (n end : ℕ) → take n l ≡ lessReturn l → end ≡ indexOf (stopsAt Hash) (take n l) → end ≤ n → take end l ≡ bare l
+unfolding bare
+before-comment l n end e f h = sym (take-take end n l h) ∙ ap (take end) e ∙ ap (λ k. take k (lessReturn l)) (f ∙ ap (indexOf (stopsAt Hash)) e)

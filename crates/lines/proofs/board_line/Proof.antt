@@ -1,0 +1,50 @@
+-- `lines::board_line` meets its contract. Assumes nothing.
+use native.Mathlib.Omega.{arith}
+use Rattle.lines.specs.Lines.{boardLine}
+use Rattle.lines.proofs.Saying.{said-wrong, said-right}
+use borrow.Author.Needs.{needs}
+use Rattle.lines.proofs.board_line.Statement.{statement}
+use Rattle.lines.proofs.board_line.Tie as tie
+
+slice-aggregate-read-numbers : tie.Need-slice-aggregate-read-numbers
+slice-aggregate-read-numbers c = search needs
+
+read-numbers-requires : tie.Need-read-numbers-requires
+read-numbers-requires c κs = search needs
+
+add-t9 : tie.Need-add-t9
+add-t9 c = omega (arith, c .before .before .before .read-numbers .ensures .few)
+
+returns : tie.Need-returns
+unfolding boardLine
+returns c = said-wrong 1 1 _ (c .before .before .before .read-numbers .ensures .told) (c .before .if1 .taken)
+
+array-read-t12 : tie.Need-array-read-t12
+array-read-t12 c = search needs
+
+cast-t13 : tie.Need-cast-t13
+cast-t13 c = omega (arith, c .before .before .before .read-numbers .ensures .small 0 (omega arith))
+
+array-read-t16 : tie.Need-array-read-t16
+array-read-t16 c = search needs
+
+cast-t17 : tie.Need-cast-t17
+cast-t17 c = omega (arith, c .before .before .before .read-numbers .ensures .small 1 (omega arith))
+
+returns-2 : tie.Need-returns-2
+unfolding boardLine
+returns-2 c = said-right 1 1 (c .before .before .before .read-numbers .ensures .told) (c .before .if1 .left) (rw (c .before .before .before .read-numbers .ensures .read (c .before .if1 .left) 0 (omega arith), c .before .before .before .read-numbers .ensures .read (c .before .if1 .left) 1 (omega arith)))
+
+pub board-line-spec : {M : Type 1} → statement M
+board-line-spec =
+    tie.close
+    (tie.spec
+    slice-aggregate-read-numbers
+    read-numbers-requires
+    add-t9
+    returns
+    array-read-t12
+    cast-t13
+    array-read-t16
+    cast-t17
+    returns-2)

@@ -1,0 +1,65 @@
+-- `place::place` meets its contract: each number asks its planner. Assumes nothing.
+use Prim.Native.Nat.{ℕ, zero, suc, _≤_}
+use mathlib.Core.Path.{_≡_, refl, sym, ap, _∙_}
+use native.Mathlib.Omega.{arith}
+use Rattle.planners.specs.Planners.{planned}
+use Rattle.planners.specs.Lent.{foundOf}
+use Rattle.planners.proofs.Bare.{reference-is}
+use borrow.Author.Needs.{needs}
+use Rattle.place.proofs.place.Statement.{statement}
+use Rattle.place.proofs.place.Tie as tie
+
+is-three : (n : ℕ) → n ≤ 3 → (n ≡ 0 → ⊥) → (n ≡ 1 → ⊥) → (n ≡ 2 → ⊥) → n ≡ 3
+is-three zero h a b c = absurd (a refl)
+is-three (suc zero) h a b c = absurd (b refl)
+is-three (suc (suc zero)) h a b c = absurd (c refl)
+is-three (suc (suc (suc zero))) h a b c = refl
+is-three (suc (suc (suc (suc n)))) h a b c = absurd (omega arith)
+
+add-stuffing : tie.Need-add-stuffing
+add-stuffing c = search needs
+
+stuffing-requires : tie.Need-stuffing-requires
+stuffing-requires c κs = search needs
+
+returns : tie.Need-returns
+unfolding planned
+returns c = rw (c .before .if1 .taken) (c .stuffing .ensures ∙ ap foundOf (sym (reference-is _ _ _ _ _ (c .before .before .args .d))))
+
+horizon-requires : tie.Need-horizon-requires
+horizon-requires c κs = search needs
+
+returns-2 : tie.Need-returns-2
+unfolding planned
+returns-2 c = rw (c .before .if2 .taken) (c .horizon .ensures)
+
+stuffing-requires-2 : tie.Need-stuffing-requires-2
+stuffing-requires-2 c κs = search needs
+
+returns-3 : tie.Need-returns-3
+unfolding planned
+returns-3 c = rw (c .before .if3 .taken) (c .stuffing2 .ensures)
+
+full-requires : tie.Need-full-requires
+full-requires c κs = search needs
+
+returns-4 : tie.Need-returns-4
+unfolding planned
+returns-4 c =
+    let e = c .before in
+    let s = e .before .before .before in
+    rw (is-three (s .args .planner) (s .pre .1 .0) (e .before .before .if1 .left) (e .before .if2 .left) (e .if3 .left)) (c .full .ensures)
+
+pub place-spec : {M : Type 1} → statement M
+place-spec =
+    tie.close
+    (tie.spec
+    add-stuffing
+    stuffing-requires
+    returns
+    horizon-requires
+    returns-2
+    stuffing-requires-2
+    returns-3
+    full-requires
+    returns-4)

@@ -1,0 +1,27 @@
+-- A line that says an event: what the theorem of `proofs/Lines` speaks of. Assumes nothing.
+use Prim.Native.Nat.{ℕ, _<_}
+use mathlib.Core.List.{List, [], _∷_, _++_}
+use Rattle.events.specs.declared.Event.{Event}
+use Rattle.events.specs.declared.Event.the-variants.{NewBoard, Submit, Clock, Withdraw}
+use Rattle.text.specs.Text.{decimal}
+use Rattle.lines.specs.Lines.{boardName, submitName, clockName, withdrawName}
+
+-- words with one space between two
+unfoldable pub joined : List (List ℕ) → List ℕ
+joined [] = []
+joined (w ∷ []) = w
+joined (w ∷ v ∷ ws) = w ++ (32 ∷ joined (v ∷ ws))
+
+-- "board W H", "submit PLANNER ID W H E D", "clock T", "withdraw ID", the numbers in decimal
+unfoldable pub wordsOf : Event → List (List ℕ)
+wordsOf (NewBoard W H) = boardName ∷ decimal W ∷ decimal H ∷ []
+wordsOf (Submit n a) = submitName ∷ decimal n ∷ decimal (a .id) ∷ decimal (a .w) ∷ decimal (a .h) ∷ decimal (a .e) ∷ decimal (a .d) ∷ []
+wordsOf (Clock i) = clockName ∷ decimal i ∷ []
+wordsOf (Withdraw n) = withdrawName ∷ decimal n ∷ []
+
+-- "an event's fields have the record's widths"
+unfoldable pub Wide : Event → Type 0
+Wide (NewBoard W H) = (W < 65536) × (H < 65536)
+Wide (Submit n a) = (n < 256) × (a .id < 4294967296) × (a .w < 65536) × (a .h < 65536) × (a .e < 4294967296) × (a .d < 4294967296)
+Wide (Clock i) = i < 4294967296
+Wide (Withdraw n) = n < 4294967296

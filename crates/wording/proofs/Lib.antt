@@ -1,0 +1,4 @@
+pub mod Names
+pub mod Judged
+pub mod Walking
+pub mod Counting

@@ -1,0 +1,57 @@
+-- `wording::find` meets its contract. Assumes nothing.
+use Prim.Native.Nat.{_+_, _-_, _≤_}
+use mathlib.Core.Path.{_≡_, sym, _∙_}
+use native.Mathlib.Omega.{arith}
+use native.Mathlib.Nat.{zero-add}
+use lib.ListN.{length, drop}
+use Rattle.lists.specs.Lists.{indexOf}
+use Rattle.lists.proofs.Append.{index-on, index-here, index-none}
+use Rattle.wording.specs.Wording.{stopsAt}
+use borrow.Author.Needs.{needs}
+use Rattle.wording.proofs.find.Statement.{statement}
+use Rattle.wording.proofs.find.Tie as tie
+
+abbrev Inv-loop : tie.InvT-loop
+Inv-loop text sort i₀ i = (i ≤ length text) × (indexOf (stopsAt sort) text ≡ i + indexOf (stopsAt sort) (drop i text))
+
+abbrev μ-loop : tie.MeasureT-loop
+μ-loop text sort i₀ i = length text - i
+
+loop-holds : tie.Need-loop-holds Inv-loop μ-loop
+loop-holds c = (omega arith, sym (zero-add _))
+
+shared-slice-read-stops : tie.Need-shared-slice-read-stops Inv-loop μ-loop
+shared-slice-read-stops c = search needs
+
+stops-requires : tie.Need-stops-requires Inv-loop μ-loop
+stops-requires c κs = search needs
+
+returns : tie.Need-returns Inv-loop μ-loop
+returns c = let l = c .before .before .before .before .loop in let a = c .before .before .before .before .before .before .args in (index-here (stopsAt (a .sort)) (a .text .now) (l .i) 0 (omega arith) (sym (c .before .stops .ensures) ∙ c .if1 .taken) (l .inv .1), omega arith)
+
+add-i : tie.Need-add-i Inv-loop μ-loop
+add-i c = search needs
+
+loop-less : tie.Need-loop-less Inv-loop μ-loop
+loop-less c = search needs
+
+loop-again : tie.Need-loop-again Inv-loop μ-loop
+loop-again c = let l = c .before .before .before .before .loop in let a = c .before .before .before .before .before .before .args in (omega arith, index-on (stopsAt (a .sort)) (a .text .now) (l .i) 0 (omega arith) (sym (c .before .stops .ensures) ∙ c .if1 .left) (l .inv .1))
+
+returns-2 : tie.Need-returns-2 Inv-loop μ-loop
+returns-2 c = let l = c .before .loop in let a = c .before .before .before .args in (index-none (stopsAt (a .sort)) (a .text .now) (l .i) (omega arith) (l .inv .1), omega arith)
+
+pub find-spec : {M : Type 1} → statement M
+find-spec =
+    tie.close
+    (tie.spec
+    Inv-loop
+    μ-loop
+    loop-holds
+    shared-slice-read-stops
+    stops-requires
+    returns
+    add-i
+    loop-less
+    loop-again
+    returns-2)

@@ -1,0 +1,101 @@
+-- `wording::read_numbers` meets its contract. Assumes nothing.
+use Prim.Native.Nat.{_-_}
+use mathlib.Core.Path.{_≡_, refl, sym, _∙_}
+use native.Mathlib.Omega.{arith}
+use borrow.Author.Tests.{not-true, not-false}
+use mathlib.Core.Bool.{true}
+use Rattle.wording.specs.Wording.{fits, part}
+use lib.ListN.{length, getD}
+use Rattle.wording.proofs.Counting.{Sofar, sofar-none, sofar-one, stops-here, all-read, too-many}
+use borrow.Author.Needs.{needs}
+use Rattle.wording.proofs.read_numbers.Statement.{statement}
+use Rattle.wording.proofs.read_numbers.Tie as tie
+
+abbrev Inv-loop : tie.InvT-loop
+Inv-loop text at mosts values₀ from₀ i₀ values from i = Sofar text at mosts values from i
+
+abbrev μ-loop : tie.MeasureT-loop
+μ-loop text at mosts values₀ from₀ i₀ values from i = length mosts - i
+
+loop-holds : tie.Need-loop-holds Inv-loop μ-loop
+loop-holds c = sofar-none _ _ _ (c .before .before .pre .0)
+
+next-requires : tie.Need-next-requires Inv-loop μ-loop
+next-requires c κs = search needs
+
+sub-read-number : tie.Need-sub-read-number Inv-loop μ-loop
+sub-read-number c = search needs
+
+part-read-number-start : tie.Need-part-read-number-start Inv-loop μ-loop
+part-read-number-start c = search needs
+
+part-read-number-end : tie.Need-part-read-number-end Inv-loop μ-loop
+part-read-number-end c = search needs
+
+mul-read-number : tie.Need-mul-read-number Inv-loop μ-loop
+mul-read-number c = search needs
+
+shared-slice-read-read-number : tie.Need-shared-slice-read-read-number Inv-loop μ-loop
+shared-slice-read-read-number c = search needs
+
+read-number-requires : tie.Need-read-number-requires Inv-loop μ-loop
+read-number-requires c κs = search needs
+
+add-t20 : tie.Need-add-t20 Inv-loop μ-loop
+add-t20 c = search needs
+
+returns : tie.Need-returns Inv-loop μ-loop
+returns c = let l = c .before .before .before .before .before .before .before .loop in let a = c .before .before .before .before .before .before .before .before .before .before .args in let n = c .before .before .before .before .before .next in let k = c .before .before .read-number in stops-here (l .inv) (n .ensures) (omega arith) (sym (k .ensures .0) ∙ not-true _ (c .if1 .taken)) refl refl
+
+mul-values : tie.Need-mul-values Inv-loop μ-loop
+mul-values c = search needs
+
+array-write-values : tie.Need-array-write-values Inv-loop μ-loop
+array-write-values c = search needs
+
+add-i : tie.Need-add-i Inv-loop μ-loop
+add-i c = search needs
+
+loop-less : tie.Need-loop-less Inv-loop μ-loop
+loop-less c = search needs
+
+loop-again : tie.Need-loop-again Inv-loop μ-loop
+loop-again c = let l = c .before .before .before .before .before .before .before .loop in let a = c .before .before .before .before .before .before .before .before .before .before .args in let n = c .before .before .before .before .before .next in let k = c .before .before .read-number in let f : fits (getD (a .mosts .now) (l .i) 0) (part (n .result .from) (n .result .to) (a .text .now)) ≡ true = sym (k .ensures .0) ∙ not-false _ (c .if1 .left) in sofar-one (l .inv) (n .ensures) (omega arith) (c .before .before .before .before .before .before .before .before .before .before .pre .1) f (k .ensures .1 ∙ rw f)
+
+next-requires-2 : tie.Need-next-requires-2 Inv-loop μ-loop
+next-requires-2 c κs = search needs
+
+returns-2 : tie.Need-returns-2 Inv-loop μ-loop
+returns-2 c = let l = c .before .before .before .before .loop in let n = c .before .before .next2 in all-read (l .inv) (n .ensures) (omega arith) (c .if2 .taken) refl refl
+
+add-t26 : tie.Need-add-t26 Inv-loop μ-loop
+add-t26 c = search needs
+
+returns-3 : tie.Need-returns-3 Inv-loop μ-loop
+returns-3 c = let l = c .before .before .before .before .loop in let n = c .before .before .next2 in too-many (l .inv) (n .ensures) (omega arith) (c .if2 .left) refl refl
+
+pub read-numbers-spec : {M : Type 1} → statement M
+read-numbers-spec =
+    tie.close
+    (tie.spec
+    Inv-loop
+    μ-loop
+    loop-holds
+    next-requires
+    sub-read-number
+    part-read-number-start
+    part-read-number-end
+    mul-read-number
+    shared-slice-read-read-number
+    read-number-requires
+    add-t20
+    returns
+    mul-values
+    array-write-values
+    add-i
+    loop-less
+    loop-again
+    next-requires-2
+    returns-2
+    add-t26
+    returns-3)
