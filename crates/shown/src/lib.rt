@@ -103,7 +103,7 @@ fn put_device(out: &mut [u8], board: Board) -> usize
 fn put_shown(out: &mut [u8; 8192], board: Board, shown: [Task; 64]) -> usize
     ensures { λ r. ⌜ r ≡ length (shownText board shown) ⌝ }
     ensures { λ r. ⌜ now (out .exit) ≡ overFront (shownText board shown) (now (out .entry)) ⌝ }
-    ensures { λ r. ⌜ r ≤ 8192 ⌝ }
+    ensures { λ r. ⌜ r ≤ length (now (out .exit)) ⌝ }
 {
     let tasks = board.tasks;
     let at = put_device(out, board);
@@ -114,7 +114,7 @@ fn put_shown(out: &mut [u8; 8192], board: Board, shown: [Task; 64]) -> usize
 pub fn put_board(out: &mut [u8; 8192], board: Board) -> usize
     ensures { λ r. ⌜ r ≡ length (boardText board) ⌝ }
     ensures { λ r. ⌜ now (out .exit) ≡ overFront (boardText board) (now (out .entry)) ⌝ }
-    ensures { λ r. ⌜ r ≤ 8192 ⌝ }
+    ensures { λ r. ⌜ r ≤ length (now (out .exit)) ⌝ }
 {
     let tasks = board.tasks;
     put_shown(out, board, tasks)
@@ -124,7 +124,7 @@ pub fn put_board(out: &mut [u8; 8192], board: Board) -> usize
 pub fn put_stamped(out: &mut [u8; 8192], board: Board, instant: u32) -> usize
     ensures { λ r. ⌜ r ≡ length (stampText instant board) ⌝ }
     ensures { λ r. ⌜ now (out .exit) ≡ overFront (stampText instant board) (now (out .entry)) ⌝ }
-    ensures { λ r. ⌜ r ≤ 8192 ⌝ }
+    ensures { λ r. ⌜ r ≤ length (now (out .exit)) ⌝ }
 {
     let tasks = board.tasks;
     let stamped = stamping::stamp_slots(tasks, instant);
@@ -135,7 +135,7 @@ pub fn put_stamped(out: &mut [u8; 8192], board: Board, instant: u32) -> usize
 pub fn put_answer(out: &mut [u8; 8192], number: u32) -> usize
     ensures { λ r. ⌜ r ≡ length (answerText number) ⌝ }
     ensures { λ r. ⌜ now (out .exit) ≡ overFront (answerText number) (now (out .entry)) ⌝ }
-    ensures { λ r. ⌜ r ≤ 8192 ⌝ }
+    ensures { λ r. ⌜ r ≤ length (now (out .exit)) ⌝ }
 {
     let at = text::put_bytes(out, 0, b"answer ");
     text::put_ended(out, at, number, b'\n')
