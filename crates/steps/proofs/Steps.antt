@@ -1,7 +1,7 @@
 -- What each event does to the board inside a run is what its call does in the book. Assumes nothing.
 use Prim.Native.Nat.{ℕ, zero, suc, _+_, _≤_, _<_, max}
 use mathlib.Core.Path.{_≡_, refl, sym, ap, _∙_, subst}
-use mathlib.Core.Bool.{true, false, not, cond, true≢false}
+use mathlib.Core.Bool.{Bool, true, false, not, cond}
 use mathlib.Core.List.{List, [], _∷_, map}
 use native.Mathlib.Omega.{arith}
 use borrow.Author.Tests.{lt-ltb, le-ltb}
@@ -279,13 +279,14 @@ module _ (d : Device) (ks : List Task) {id s f l r : List ℕ} (k : Kept d ks id
           same : submitted b n a ≡ record { answer = Placed c t (t + a .e); board = boardOf (set ks free x) (d .clock) (d .columns) (d .rows) }
           same = books .same ∙ ap (λ o. record { answer = Placed c t (t + a .e); board = boardOf (set ks free o) (d .clock) (d .columns) (d .rows) }) (sym w)
 
-  -- A NEW BOARD, and the board of zeros
-  pub step-new : (W H : ℕ) (after : List ℕ) → deviceFits W H ≡ true → length after ≡ 64 → Above 0 after
-      → Follows d ks (outcome b (NewBoard W H)) (record { number = 0; column = 0; start = 0; finish = 0; device = record { clock = 0; columns = W; rows = H; used = 0; sound = true }; slot = 65; task = freeSlot }) after s f l r
-  unfolding outcome freshBoard
-  step-new W H after fits z a =
-      subst (λ o. Follows d ks o (record { number = 0; column = 0; start = 0; finish = 0; device = record { clock = 0; columns = W; rows = H; used = 0; sound = true }; slot = 65; task = freeSlot }) after s f l r)
-      (sym (ap (λ x. record { answer = bare (x .number); board = x .board }) (created-done W H fits)))
+  -- A BOARD WITHOUT A TASK
+  step-empty : (n W H : ℕ) (well : Bool) (o : Outcome) (after : List ℕ) → o ≡ record { answer = bare n; board = freshBoard W H } → length after ≡ 64 → Above 0 after
+      → sound W H 0 (replicate 64 freeSlot) ≡ well → replicate 64 freeSlot ≡ asBooked (record { clock = 0; columns = W; rows = H; used = 0; sound = well }) (replicate 64 freeSlot)
+      → Follows d ks o (record { number = n; column = 0; start = 0; finish = 0; device = record { clock = 0; columns = W; rows = H; used = 0; sound = well }; slot = 65; task = freeSlot }) after s f l r
+  unfolding freshBoard
+  step-empty n W H well o after e z a g m =
+      subst (λ o. Follows d ks o (record { number = n; column = 0; start = 0; finish = 0; device = record { clock = 0; columns = W; rows = H; used = 0; sound = well }; slot = 65; task = freeSlot }) after s f l r)
+      (sym e)
       (record {
         number = refl;
         column = refl;
@@ -301,12 +302,20 @@ module _ (d : Device) (ks : List Task) {id s f l r : List ℕ} (k : Kept d ks id
           finishes = k .finishes;
           lefts = k .lefts;
           pasts = k .pasts;
-          good = is-true (sound W H 0 (replicate 64 freeSlot)) (sound-in W H 0 (replicate 64 freeSlot) fresh);
+          good = g;
           above = a;
           mirrors = λ v. mirrors-none after s f l r z a;
         };
-        records = λ tasks v w. sym (aged-now W H 0 (replicate 64 freeSlot) fresh);
+        records = λ tasks v w. m;
       })
+
+  -- A NEW BOARD, and the board of zeros
+  pub step-new : (W H : ℕ) (after : List ℕ) → deviceFits W H ≡ true → length after ≡ 64 → Above 0 after
+      → Follows d ks (outcome b (NewBoard W H)) (record { number = 0; column = 0; start = 0; finish = 0; device = record { clock = 0; columns = W; rows = H; used = 0; sound = true }; slot = 65; task = freeSlot }) after s f l r
+  unfolding outcome freshBoard
+  step-new W H after fits z a =
+      step-empty 0 W H true (outcome b (NewBoard W H)) after (ap (λ x. record { answer = bare (x .number); board = x .board }) (created-done W H fits)) z a
+      (is-true (sound W H 0 (replicate 64 freeSlot)) (sound-in W H 0 (replicate 64 freeSlot) fresh)) (sym (aged-now W H 0 (replicate 64 freeSlot) fresh))
     where
       fresh : Sound W H 0 (replicate 64 freeSlot)
       fresh = subst (λ x. SoundBoard (x .board)) (created-done W H fits) (created-sound W H (rw fits tt))
@@ -315,26 +324,4 @@ module _ (d : Device) (ks : List Task) {id s f l r : List ℕ} (k : Kept d ks id
       → Follows d ks (outcome b (NewBoard W H)) (record { number = 2; column = 0; start = 0; finish = 0; device = record { clock = 0; columns = 0; rows = 0; used = 0; sound = false }; slot = 65; task = freeSlot }) after s f l r
   unfolding outcome freshBoard
   step-zero W H after fits z a =
-      subst (λ o. Follows d ks o (record { number = 2; column = 0; start = 0; finish = 0; device = record { clock = 0; columns = 0; rows = 0; used = 0; sound = false }; slot = 65; task = freeSlot }) after s f l r)
-      (sym (ap (λ x. record { answer = bare (x .number); board = x .board }) (created-not W H fits)))
-      (record {
-        number = refl;
-        column = refl;
-        start = refl;
-        finish = refl;
-        clock = refl;
-        columns = refl;
-        rows = refl;
-        kept = record {
-          slots = length-replicate 64 freeSlot;
-          ids = z;
-          starts = k .starts;
-          finishes = k .finishes;
-          lefts = k .lefts;
-          pasts = k .pasts;
-          good = zero-unsound;
-          above = a;
-          mirrors = λ v. absurd (true≢false (sym v));
-        };
-        records = λ tasks v w. refl;
-      })
+      step-empty 2 0 0 false (outcome b (NewBoard W H)) after (ap (λ x. record { answer = bare (x .number); board = x .board }) (created-not W H fits)) z a zero-unsound refl
