@@ -17,7 +17,8 @@
 //!           methods from slips.
 //! --limit N stops after N events instead of 1,000,000,000 (to try the stop itself).
 //!
-//! Where 01 is open: a recording that ends with 15 or 16 is answered by the five questions for the board as it stands then.
+//! A recording that ends with 15 or 16 is not answered by the five questions: a message on standard error names the event, and
+//! nothing is printed. So with a wrong question, and its records are not read.
 
 mod model;
 
@@ -368,7 +369,7 @@ fn told(board: &Board, question: &Question) -> String {
 
 fn number(word: &str, what: &str, most: u64) -> u64 {
     match word.parse::<u64>() {
-        Ok(n) if n <= most => n,
+        Ok(n) if n <= most && word.bytes().all(|b| b.is_ascii_digit()) => n,
         _ => stop(&format!("{what} is to be a number from 0 to {most}, not '{word}'")),
     }
 }
@@ -380,7 +381,7 @@ const USAGE: &str = "usage: second [--check] [--counts] [--limit N] <records
 fn main() {
     let mut options = Options { check: false, counts: false, limit: MOST_EVENTS };
     let mut words: Vec<String> = std::env::args().skip(1).collect();
-    let wide = u32::MAX as u64;
+    let (wide, short) = (u32::MAX as u64, u16::MAX as u64);
     while words.first().is_some_and(|w| w.starts_with("--")) {
         let option = words.remove(0);
         match option.as_str() {
@@ -399,9 +400,9 @@ fn main() {
         ["board"] => Question::Board,
         ["stamp", t] => Question::Stamp(number(t, "T", wide)),
         ["openings", w, h, e, d, ref rest @ ..] if matches!(rest.len(), 0 | 2 | 3) => Question::Openings {
-            ask: Ask { id: 0, w: number(w, "W", wide), h: number(h, "H", wide), e: number(e, "E", wide), d: number(d, "D", wide) },
+            ask: Ask { id: 0, w: number(w, "W", short), h: number(h, "H", short), e: number(e, "E", wide), d: number(d, "D", wide) },
             after: match rest {
-                [start, column, ..] => (number(start, "START", wide), number(column, "COLUMN", wide)),
+                [start, column, ..] => (number(start, "START", wide), number(column, "COLUMN", short)),
                 _ => (0, 0),
             },
             most: rest.get(2).map_or(1000, |m| number(m, "MOST", wide) as usize),
@@ -409,7 +410,12 @@ fn main() {
         _ => stop(USAGE),
     };
     let mut counts = Counts::default();
-    let board = run(io::stdin().lock(), &options, &mut counts, &mut |_, _, _| {}, &mut || {});
+    let mut halt = None;
+    let board = run(io::stdin().lock(), &options, &mut counts, &mut |n, kind, a| if a.number >= 15 { halt = Some((n, kind, a.number)) }, &mut || {});
+    if let Some((event, kind, number)) = halt {
+        let what = if number == 15 { "cut short" } else { "of no known kind" };
+        stop(&format!("event {event} (kind {kind}) is {what} ({number}): not answered"));
+    }
     send(&mut told(&board, &question).into_bytes());
 }
 

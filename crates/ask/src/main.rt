@@ -165,7 +165,7 @@ fn stopped(s: State, end: u8, kind: u8) -> State
 // More of the input behind what is left of it. There is room for it, so 0 bytes are the end of the input, and there a record
 // that is cut short is 15. A read that fails is not the end.
 fn read_on(bytes: &mut [u8], s: State, last: Told) -> State
-    requires { ⌜ Stands (length (now bytes)) s × (s .to - s .from < length (now bytes)) ⌝ }
+    requires { ⌜ Stands (length (now bytes)) s × (s .to - s .from < length (now bytes)) × (s .number < 1000000000) ⌝ }
     ensures { λ r. ⌜ Stands (length (now (bytes .entry))) r ⌝ }
 {
     let left = streams::carry(bytes, s.from, s.to);

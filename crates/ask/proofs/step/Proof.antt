@@ -48,7 +48,7 @@ read-on-requires c κs =
     let r = c .before .before .before .before .before .before .read-at .ensures .0 in
     let short = left-told _ r (n .0) (n .2) (omega arith) (c .before .if3 .left) in
     let left = simp (length-drop, length-take) at short in
-    (search needs, omega (arith, left))
+    (search needs, omega (arith, left), omega arith)
 
 same-length-3 : tie.Need-same-length-3
 same-length-3 c = search needs
