@@ -1,10 +1,10 @@
--- `ask::guard` meets its contract. Assumes nothing.
+-- `arguments::guard` meets its contract. Assumes nothing.
 use mathlib.Core.Path.{_≡_}
 use mathlib.Core.Bool.{true, false}
 use borrow.Author.Tests.{eq-eqb, ne-eqb}
 use lib.Dec.{eqb}
-use Rattle.ask.proofs.guard.Statement.{statement}
-use Rattle.ask.proofs.guard.Tie as tie
+use Rattle.arguments.proofs.guard.Statement.{statement}
+use Rattle.arguments.proofs.guard.Tie as tie
 
 returns : tie.Need-returns
 returns c =
