@@ -3,8 +3,7 @@
 ghost use mathlib.Core.Path.{_≡_};
 ghost use Prim.Native.Nat.{_+_, _-_, _*_, _≤_, _<_};
 ghost use lib.ListN.{length};
-ghost use Rattle.text.specs.Digits.{Put};
-ghost use Rattle.ask.specs.Asked.{guarded, argumentText, joinedText, haltText, Stands};
+ghost use Rattle.ask.specs.Asked.{Stands};
 use board::Board;
 use libc::STDERR_FILENO;
 use libc::STDIN_FILENO;
@@ -13,50 +12,6 @@ use questions::Question;
 use session::Ran;
 use streams::Told;
 use tasks::Submission;
-
-// A space or a tab inside an argument would part it in two: a byte that matches nothing in its place.
-fn guard(b: u8) -> u8
-    ensures { λ r. ⌜ r ≡ guarded b ⌝ }
-{
-    if b == b' ' {
-        return b'?';
-    }
-    if b == b'\t' {
-        return b'?';
-    }
-    b
-}
-
-// An argument from a place on, and so that it is one word; the place after it.
-fn put_word(text: &mut [u8], at: usize, bytes: &[u8]) -> usize
-    requires { ⌜ at + length (now bytes) + 1 ≤ length (now text) ⌝ }
-    ensures { λ r. ⌜ Put (now (text .entry)) at (argumentText (now (bytes .entry))) (now (text .exit)) r ⌝ }
-    ensures { λ r. ⌜ r ≤ at + length (now (bytes .entry)) + 1 ⌝ }
-{
-    if bytes.len() == 0 {
-        text[at] = b'?';
-        return at + 1;
-    }
-    let mut i = 0;
-    while i < bytes.len() {
-        text[at + i] = guard(bytes[i]);
-        i += 1;
-    }
-    at + i
-}
-
-// The same behind the arguments before it, parted from them by one space.
-fn put_argument(text: &mut [u8], at: usize, bytes: &[u8]) -> usize
-    requires { ⌜ at + length (now bytes) + 2 ≤ length (now text) ⌝ }
-    ensures { λ r. ⌜ Put (now (text .entry)) at (joinedText at (now (bytes .entry))) (now (text .exit)) r ⌝ }
-    ensures { λ r. ⌜ r ≤ at + length (now (bytes .entry)) + 2 ⌝ }
-{
-    if at == 0 {
-        return put_word(text, at, bytes);
-    }
-    let next = text::put_bytes(text, at, b" ");
-    put_word(text, next, bytes)
-}
 
 // The arguments so far, and whether there was room for all of them.
 struct Arguments {
@@ -86,7 +41,7 @@ fn with_argument(text: &mut [u8], j: Arguments, i: usize) -> Arguments
             whole: false,
         };
     }
-    let size = put_argument(text, j.size, &bytes[0..n]);
+    let size = arguments::put_argument(text, j.size, &bytes[0..n]);
     Arguments {
         size: size,
         whole: true,
@@ -280,26 +235,6 @@ fn recorded() -> Recording
     }
 }
 
-// The message of a recording that ends in 15 or 16, at the front of the buffer; how many bytes it takes.
-fn put_halt(text: &mut [u8], event: u32, kind: u8, end: u8) -> usize
-    requires { ⌜ 128 ≤ length (now text) ⌝ }
-    ensures { λ r. ⌜ Put (now (text .entry)) 0 (haltText event kind end) (now (text .exit)) r ⌝ }
-    ensures { λ r. ⌜ r ≤ 128 ⌝ }
-{
-    let event_at = text::put_bytes(text, 0, b"ask: event ");
-    let after_event = text::put_decimal(text, event_at, event);
-    let kind_at = text::put_bytes(text, after_event, b" (kind ");
-    let after_kind = text::put_decimal(text, kind_at, streams::wide(kind));
-    if end == 15 {
-        return text::put_bytes(text, after_kind, b") is cut short (15): not answered\n");
-    }
-    text::put_bytes(
-        text,
-        after_kind,
-        b") is of no known kind (16): not answered\n",
-    )
-}
-
 // "a message on standard error names the event". Of an input that cannot be read, `read_on` has told.
 fn halted(r: Recording)
     requires { ⌜ r .number ≤ 1000000000 ⌝ }
@@ -307,8 +242,8 @@ fn halted(r: Recording)
     if r.end == 1 {
         return;
     }
-    let mut text = io::buffer();
-    let n = put_halt(&mut text, r.number + 1, r.kind, r.end);
+    let mut text = [0u8; 8192];
+    let n = shown::put_halt(&mut text, r.number + 1, r.kind, r.end);
     io::write_all(STDERR_FILENO, &text[0..n]);
 }
 

@@ -24,6 +24,7 @@ use Rattle.lines.proofs.read.Reads as line
 use Rattle.questions.proofs.read.Reads as question
 use Rattle.shown.proofs.put_answer.Reads as put-answer
 use Rattle.shown.proofs.put_board.Reads as put-board
+use Rattle.shown.proofs.put_halt.Reads as put-halt
 use Rattle.shown.proofs.put_stamped.Reads as put-stamped
 
 -- two things that are the same third
@@ -86,6 +87,9 @@ question-unique κs a r q s t e f = one e f
 -- what `ask` prints of a board
 pub put-answer-unique : (κs : _) (a : _) (r q : _) (s t : _) → put-answer.Post κs a r s → put-answer.Post κs a q t → (r ≡ q) × (s .0 .now ≡ t .0 .now)
 put-answer-unique κs a r q s t e f = (one (e .0) (f .0), one (e .1 .0) (f .1 .0))
+
+pub put-halt-unique : (κs : _) (a : _) (r q : _) (s t : _) → put-halt.Post κs a r s → put-halt.Post κs a q t → (r ≡ q) × (s .0 .now ≡ t .0 .now)
+put-halt-unique κs a r q s t e f = (one (e .0) (f .0), one (e .1 .0) (f .1 .0))
 
 pub put-board-unique : (κs : _) (a : _) (r q : _) (s t : _) → put-board.Post κs a r s → put-board.Post κs a q t → (r ≡ q) × (s .0 .now ≡ t .0 .now)
 put-board-unique κs a r q s t e f = (one (e .0) (f .0), one (e .1 .0) (f .1 .0))

@@ -2,6 +2,7 @@
 use Prim.Native.Nat.{ℕ, suc}
 use mathlib.Core.Bool.{cond}
 use mathlib.Core.List.{List, [], _∷_, _++_}
+use lib.Dec.{eqb}
 use Rattle.tasks.specs.declared.Phase.{Phase}
 use Rattle.tasks.specs.declared.Phase.the-variants.{Ended, Waiting, Running}
 use Rattle.tasks.specs.declared.Task.{Task}
@@ -43,3 +44,25 @@ boardText b = shownText b (b .tasks)
 -- "`ask stamp T`: as `ask board`, the phases stamped at T"
 abbrev pub stampText : ℕ → Board → List ℕ
 stampText instant b = shownText b (stampedAll instant (b .tasks))
+
+-- "ask: event "
+abbrev pub askEvent : List ℕ
+askEvent = 97 ∷ 115 ∷ 107 ∷ 58 ∷ 32 ∷ 101 ∷ 118 ∷ 101 ∷ 110 ∷ 116 ∷ 32 ∷ []
+
+-- " (kind "
+abbrev pub ofKind : List ℕ
+ofKind = 32 ∷ 40 ∷ 107 ∷ 105 ∷ 110 ∷ 100 ∷ 32 ∷ []
+
+-- ") is cut short (15): not answered"
+abbrev pub isCutShort : List ℕ
+isCutShort =
+    41 ∷ 32 ∷ 105 ∷ 115 ∷ 32 ∷ 99 ∷ 117 ∷ 116 ∷ 32 ∷ 115 ∷ 104 ∷ 111 ∷ 114 ∷ 116 ∷ 32 ∷ 40 ∷ 49 ∷ 53 ∷ 41 ∷ 58 ∷ 32 ∷ 110 ∷ 111 ∷ 116 ∷ 32 ∷ 97 ∷ 110 ∷ 115 ∷ 119 ∷ 101 ∷ 114 ∷ 101 ∷ 100 ∷ 10 ∷ []
+
+-- ") is of no known kind (16): not answered"
+abbrev pub isUnknown : List ℕ
+isUnknown =
+    41 ∷ 32 ∷ 105 ∷ 115 ∷ 32 ∷ 111 ∷ 102 ∷ 32 ∷ 110 ∷ 111 ∷ 32 ∷ 107 ∷ 110 ∷ 111 ∷ 119 ∷ 110 ∷ 32 ∷ 107 ∷ 105 ∷ 110 ∷ 100 ∷ 32 ∷ 40 ∷ 49 ∷ 54 ∷ 41 ∷ 58 ∷ 32 ∷ 110 ∷ 111 ∷ 116 ∷ 32 ∷ 97 ∷ 110 ∷ 115 ∷ 119 ∷ 101 ∷ 114 ∷ 101 ∷ 100 ∷ 10 ∷ []
+
+-- "A recording that ends in 15 or 16 is not answered: a message .. names the event"
+unfoldable pub haltText : ℕ → ℕ → ℕ → List ℕ
+haltText event kind end = askEvent ++ (decimal event ++ (ofKind ++ (decimal kind ++ cond (eqb end 15) isCutShort isUnknown)))

@@ -8,7 +8,7 @@ ghost use Rattle.lists.specs.Lists.{overFront};
 ghost use Rattle.tasks.specs.Tasks.{live};
 ghost use Rattle.text.specs.Text.{decimal, rowText};
 ghost use Rattle.text.specs.Digits.{Put};
-ghost use Rattle.shown.specs.Shown.{phaseWord, answerText, taskText, tasksText, shownText, boardText, stampText};
+ghost use Rattle.shown.specs.Shown.{phaseWord, answerText, haltText, taskText, tasksText, shownText, boardText, stampText};
 use board::Board;
 use tasks::Phase;
 use tasks::Task;
@@ -139,4 +139,24 @@ pub fn put_answer(out: &mut [u8; 8192], number: u32) -> usize
 {
     let at = text::put_bytes(out, 0, b"answer ");
     text::put_ended(out, at, number, b'\n')
+}
+
+// The message of a recording that ends in 15 or 16, at the front of the buffer; how many bytes it takes.
+pub fn put_halt(out: &mut [u8; 8192], event: u32, kind: u8, end: u8) -> usize
+    ensures { λ r. ⌜ r ≡ length (haltText event kind end) ⌝ }
+    ensures { λ r. ⌜ now (out .exit) ≡ overFront (haltText event kind end) (now (out .entry)) ⌝ }
+    ensures { λ r. ⌜ r ≤ length (now (out .exit)) ⌝ }
+{
+    let event_at = text::put_bytes(out, 0, b"ask: event ");
+    let after_event = text::put_decimal(out, event_at, event);
+    let kind_at = text::put_bytes(out, after_event, b" (kind ");
+    let after_kind = text::put_decimal(out, kind_at, kind as u32);
+    if end == 15 {
+        return text::put_bytes(out, after_kind, b") is cut short (15): not answered\n");
+    }
+    text::put_bytes(
+        out,
+        after_kind,
+        b") is of no known kind (16): not answered\n",
+    )
 }

@@ -1,15 +1,15 @@
--- `ask::put_word` meets its contract: one byte more each turn. Assumes nothing.
+-- `arguments::put_word` meets its contract: one byte more each turn. Assumes nothing.
 use Prim.Native.Nat.{_+_, _-_, _≤_, _<_}
 use mathlib.Core.Path.{_≡_, refl, ap, _∙_}
 use mathlib.Core.List.{map}
 use native.Mathlib.Omega.{arith}
 use lib.ListN.{length, take, set, getD, length-set}
 use lib.Seq.{sets}
-use Rattle.ask.specs.Asked.{guarded}
-use Rattle.ask.proofs.Words.{guarded-more, argument-none, argument-some}
+use Rattle.arguments.specs.Arguments.{guarded}
+use Rattle.arguments.proofs.Words.{guarded-more, argument-none, argument-some}
 use borrow.Author.Needs.{needs}
-use Rattle.ask.proofs.put_word.Statement.{statement}
-use Rattle.ask.proofs.put_word.Tie as tie
+use Rattle.arguments.proofs.put_word.Statement.{statement}
+use Rattle.arguments.proofs.put_word.Tie as tie
 
 abbrev Inv-loop : tie.InvT-loop
 Inv-loop text₀ at bytes i₀ text i = (i ≤ length bytes) × (0 < length bytes) × (length text ≡ length text₀) × (text ≡ sets text₀ at (take i (map guarded bytes)))

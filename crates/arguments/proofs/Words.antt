@@ -8,7 +8,7 @@ use lib.ListN.{length, take, set, getD, length-map, List·getD-map}
 use lib.Seq.{sets, take-all}
 use Rattle.text.specs.Digits.{Put}
 use Rattle.text.proofs.Spelling.{put-both, bytes-more}
-use Rattle.ask.specs.Asked.{guarded, argumentText, joinedText}
+use Rattle.arguments.specs.Arguments.{guarded, argumentText, joinedText}
 
 -- an empty argument
 pub argument-none : (l bytes : List ℕ) (at : ℕ) → length bytes ≡ 0 → Put l at (argumentText bytes) (set l at 63) (at + 1)

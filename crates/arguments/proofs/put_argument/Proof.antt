@@ -1,12 +1,11 @@
--- `ask::put_argument` meets its contract: one space parts two arguments. Assumes nothing.
-use mathlib.Core.Path.{refl}
+-- `arguments::put_argument` meets its contract: one space parts two arguments. Assumes nothing.
 use mathlib.Core.List.{[], _∷_}
 use native.Mathlib.Omega.{arith}
-use Rattle.shown.proofs.Slots.{put-as}
-use Rattle.ask.proofs.Words.{joined-first, joined-next}
+use Rattle.text.specs.Digits.{Put}
+use Rattle.arguments.proofs.Words.{joined-first, joined-next}
 use borrow.Author.Needs.{needs}
-use Rattle.ask.proofs.put_argument.Statement.{statement}
-use Rattle.ask.proofs.put_argument.Tie as tie
+use Rattle.arguments.proofs.put_argument.Statement.{statement}
+use Rattle.arguments.proofs.put_argument.Tie as tie
 
 put-word-requires : tie.Need-put-word-requires
 put-word-requires c κs = search needs
@@ -36,7 +35,8 @@ returns-2 c =
     let a = c .before .before .before .before .before .before .before .before .before .before .before .before .args in
     let s = c .before .before .before .before .before .before .put-bytes .ensures in
     let p = c .before .before .put-word2 .ensures in
-    (joined-next (a .bytes .now) (omega arith) (put-as (32 ∷ []) (32 ∷ []) refl (s .0) (s .1)) (p .0), omega arith)
+    let space : Put (a .text .now) (a .at) (32 ∷ []) _ _ = record { stored = s .1; place = s .0 } in
+    (joined-next (a .bytes .now) (omega arith) space (p .0), omega arith)
 
 pub put-argument-spec : {M : Type 1} → statement M
 put-argument-spec =
