@@ -1,24 +1,12 @@
 -- What the list of openings answers: code-level definitions; no promise of a public call cites them. Assumes nothing.
-use Prim.Native.Nat.{ℕ, _+_, _/_, _<_}
-use mathlib.Core.Path.{_≡_}
-use mathlib.Core.List.{List, map}
+use Prim.Native.Nat.{ℕ, _/_}
+use mathlib.Core.List.{List}
 use lib.Dec.{ltb}
 use lib.ListN.{length, take}
-use Rattle.lists.specs.Lists.{range}
-use Rattle.ways.specs.Ways.{pair}
 use Rattle.planners.specs.Openings.{Place}
-use Rattle.held.specs.Held.{NextFinish}
 use Rattle.openings.specs.declared.Filled.{Filled}
+pub use Rattle.looking.specs.Looking.{runAt, NextTick}
 
 -- "returns how many, and whether a further one remains": of the openings ps, two words each
 unfoldable pub filledOf : ℕ → List Place → Filled
 filledOf words ps = record { count = length (take (words / 2) ps); more = ltb (words / 2) (length ps) }
-
--- n openings at t, column by column
-abbrev pub runAt : ℕ → ℕ → ℕ → List Place
-runAt t from n = map (pair t) (range from n)
-
--- r is where to look next when nothing more is open at t after a column: the next tick, or a finish where nothing was open at all
-pub record NextTick (f : List ℕ) (n t column r : ℕ) : Type 0 where
-  pub tick : 0 < column → r ≡ t + 1
-  pub finish : column ≡ 0 → NextFinish f n t r

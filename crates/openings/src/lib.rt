@@ -1,76 +1,18 @@
 // The list of openings after a pair, written to a lent buffer: a run of columns at a time, from tick to tick while something is
 // open, from finish to finish where nothing is. Its cost grows with the openings written and the live tasks, not with blocked ticks.
 ghost use mathlib.Core.Path.{_≡_};
-ghost use Prim.Native.Nat.{_+_, _-_, _*_, _/_, _≤_, _<_, max, min};
+ghost use Prim.Native.Nat.{_+_, _-_, _*_, _/_, _≤_, _<_};
 ghost use lib.ListN.{length, take};
-ghost use lib.Seq.{sets};
 ghost use Rattle.lists.specs.Lists.{overFront};
 ghost use Rattle.ways.specs.Ways.{pair, openingsAfter};
 ghost use Rattle.planners.specs.Openings.{ways, pairWords};
 ghost use Rattle.planners.specs.Lent.{OnDevice, tasksOf, asked};
-ghost use Rattle.openings.specs.Filled.{filledOf, runAt, NextTick};
+ghost use Rattle.openings.specs.Filled.{filledOf};
 
 // How many openings were written, and whether a further one remains.
 pub struct Filled {
     pub count: usize,
     pub more: bool,
-}
-
-// The openings at t from column `from` up to, not including, `to`: start and column of each, from the word `at` on.
-fn put_run(buffer: &mut [u32], at: usize, t: u32, from: u32, to: u32)
-    requires { ⌜ (from ≤ to) × (at + 2 * (to - from) ≤ length (now buffer)) ⌝ }
-    ensures { λ _. ⌜ now (buffer .exit) ≡ sets (now (buffer .entry)) at (pairWords (runAt t from (to - from))) ⌝ }
-{
-    let mut i = at;
-    let mut c = from;
-    while c < to {
-        buffer[i] = t;
-        buffer[i + 1] = c;
-        i += 2;
-        c += 1;
-    }
-}
-
-// The first column that is not written: of those from `from` up to `to` as many as there is room for.
-fn stop(from: u32, to: u32, room: usize) -> u32
-    requires { ⌜ from ≤ to ⌝ }
-    ensures { λ r. ⌜ r ≡ from + min (to - from) room ⌝ }
-{
-    if room < (to - from) as usize {
-        return from + room as u32;
-    }
-    to
-}
-
-// The first tick to look at: none before now.
-fn from_tick(clock: u32, s: u32) -> u32
-    ensures { λ r. ⌜ r ≡ max clock s ⌝ }
-{
-    if s < clock { clock } else { s }
-}
-
-// The column after which to look there. No task begins past column 256.
-fn from_column(clock: u32, s: u32, c: u32) -> u32
-    ensures { λ r. ⌜ (s < clock → r ≡ 0) × (clock ≤ s → r ≡ min c 256) ⌝ }
-{
-    if s < clock {
-        return 0;
-    }
-    if c < 256 {
-        return c;
-    }
-    256
-}
-
-// Where to look when nothing more is open at t after a column.
-fn next_tick(finish: &[u32; 64], count: usize, t: u32, column: u32) -> u32
-    requires { ⌜ (count ≤ 64) × (t < 4294967295) ⌝ }
-    ensures { λ r. ⌜ NextTick (now (finish .entry)) count t column r ⌝ }
-{
-    if 0 < column {
-        return t + 1;
-    }
-    held::next_finish(finish, count, t)
 }
 
 // The openings after the pair (s, c).
@@ -95,8 +37,8 @@ pub fn list<'a>(
     ensures { λ r. ⌜ now (buffer .exit) ≡ overFront (pairWords (take (length (now (buffer .entry)) / 2) (openingsAfter (ways width clock (tasksOf count (now (start .entry)) (now (finish .entry)) (now (left .entry)) (now (past .entry))) (asked w e d)) (pair s c)))) (now (buffer .entry)) ⌝ }
 {
     let last = d - e;
-    let mut t = from_tick(clock, s);
-    let mut column = from_column(clock, s, c);
+    let mut t = looking::from_tick(clock, s);
+    let mut column = looking::from_column(clock, s, c);
     if last < t {
         return Filled {
             count: 0,
@@ -119,12 +61,12 @@ pub fn list<'a>(
                 };
             }
             let set = words::next_set(words, first);
-            let to = stop(first, set - w + 1, room - n);
-            put_run(buffer, n * 2, t, first, to);
+            let to = looking::stop(first, set - w + 1, room - n);
+            looking::put_run(buffer, n * 2, t, first, to);
             n += (to - first) as usize;
             column = to - 1;
         } else {
-            let next = next_tick(finish, count, t, column);
+            let next = looking::next_tick(finish, count, t, column);
             if last < next {
                 break 'walk Filled {
                     count: n,

@@ -1,8 +1,8 @@
--- `openings::from_column` meets its contract. Assumes nothing.
+-- `looking::from_column` meets its contract. Assumes nothing.
 use mathlib.Core.Path.{refl}
 use native.Mathlib.Omega.{arith}
-use Rattle.openings.proofs.from_column.Statement.{statement}
-use Rattle.openings.proofs.from_column.Tie as tie
+use Rattle.looking.proofs.from_column.Statement.{statement}
+use Rattle.looking.proofs.from_column.Tie as tie
 
 returns : tie.Need-returns
 returns c = (λ h. refl, λ h. absurd (omega arith))

@@ -1,15 +1,15 @@
--- `openings::put_run` meets its contract: one opening more each turn. Assumes nothing.
+-- `looking::put_run` meets its contract: one opening more each turn. Assumes nothing.
 use Prim.Native.Nat.{_+_, _-_, _*_, _≤_}
 use mathlib.Core.Path.{_≡_, refl, ap, _∙_}
 use native.Mathlib.Omega.{arith}
 use lib.ListN.{length, set, length-set}
 use lib.Seq.{sets}
 use Rattle.planners.specs.Openings.{pairWords}
-use Rattle.openings.specs.Filled.{runAt}
-use Rattle.openings.proofs.Writing.{put-none, put-one}
+use Rattle.looking.specs.Looking.{runAt}
+use Rattle.looking.proofs.Runs.{put-none, put-one}
 use borrow.Author.Needs.{needs}
-use Rattle.openings.proofs.put_run.Statement.{statement}
-use Rattle.openings.proofs.put_run.Tie as tie
+use Rattle.looking.proofs.put_run.Statement.{statement}
+use Rattle.looking.proofs.put_run.Tie as tie
 
 abbrev Inv-loop : tie.InvT-loop
 Inv-loop buffer₀ at t from to i₀ c₀ buffer i c =

@@ -1,9 +1,9 @@
--- `openings::next_tick` meets its contract: after a column the next tick, before every column a finish. Assumes nothing.
+-- `looking::next_tick` meets its contract: after a column the next tick, before every column a finish. Assumes nothing.
 use mathlib.Core.Path.{refl}
 use native.Mathlib.Omega.{arith}
 use borrow.Author.Needs.{needs}
-use Rattle.openings.proofs.next_tick.Statement.{statement}
-use Rattle.openings.proofs.next_tick.Tie as tie
+use Rattle.looking.proofs.next_tick.Statement.{statement}
+use Rattle.looking.proofs.next_tick.Tie as tie
 
 add-result : tie.Need-add-result
 add-result c = search needs
