@@ -10,7 +10,8 @@ ghost use Rattle.text.specs.Digits.{lastDigits, spaced, Put};
 
 // How many digits a number has. By comparisons: a division for each would take longer than all of them.
 fn digits(x: u64) -> usize
-    ensures { λ r. ⌜ (r ≤ 20) × (lastDigits r x ≡ decimal x) × (x < 10000000000 → r ≤ 10) ⌝ }
+    requires { ⌜ x < 10000000000 ⌝ }
+    ensures { λ r. ⌜ (r ≤ 10) × (lastDigits r x ≡ decimal x) ⌝ }
 {
     if x < 10 {
         return 1;
@@ -39,37 +40,7 @@ fn digits(x: u64) -> usize
     if x < 1000000000 {
         return 9;
     }
-    if x < 10000000000 {
-        return 10;
-    }
-    if x < 100000000000 {
-        return 11;
-    }
-    if x < 1000000000000 {
-        return 12;
-    }
-    if x < 10000000000000 {
-        return 13;
-    }
-    if x < 100000000000000 {
-        return 14;
-    }
-    if x < 1000000000000000 {
-        return 15;
-    }
-    if x < 10000000000000000 {
-        return 16;
-    }
-    if x < 100000000000000000 {
-        return 17;
-    }
-    if x < 1000000000000000000 {
-        return 18;
-    }
-    if x < 10000000000000000000 {
-        return 19;
-    }
-    20
+    10
 }
 
 // The last n digits of a number, from the last one backwards: each is what a division by ten leaves.
@@ -86,29 +57,26 @@ fn spell(out: &mut [u8], at: usize, n: usize, x: u64)
     }
 }
 
-// A number from a place of the buffer on; the place after it.
+// A number of ten digits at most, as every u32 is and the sum of two, from a place of the buffer on; the place after it.
+pub fn put_long(out: &mut [u8], at: usize, x: u64) -> usize
+    requires { ⌜ (x < 10000000000) × (at + 10 ≤ length (now out)) ⌝ }
+    ensures { λ r. ⌜ r ≡ at + length (decimal x) ⌝ }
+    ensures { λ r. ⌜ now (out .exit) ≡ sets (now (out .entry)) at (decimal x) ⌝ }
+    ensures { λ r. ⌜ r ≤ at + 10 ⌝ }
+{
+    let n = digits(x);
+    spell(out, at, n, x);
+    at + n
+}
+
+// The same for a number of 32 bits.
 pub fn put_decimal(out: &mut [u8], at: usize, x: u32) -> usize
     requires { ⌜ at + 10 ≤ length (now out) ⌝ }
     ensures { λ r. ⌜ r ≡ at + length (decimal x) ⌝ }
     ensures { λ r. ⌜ now (out .exit) ≡ sets (now (out .entry)) at (decimal x) ⌝ }
     ensures { λ r. ⌜ r ≤ at + 10 ⌝ }
 {
-    let long = x as u64;
-    let n = digits(long);
-    spell(out, at, n, long);
-    at + n
-}
-
-// The same for a number that may be longer.
-pub fn put_long(out: &mut [u8], at: usize, x: u64) -> usize
-    requires { ⌜ at + 20 ≤ length (now out) ⌝ }
-    ensures { λ r. ⌜ r ≡ at + length (decimal x) ⌝ }
-    ensures { λ r. ⌜ now (out .exit) ≡ sets (now (out .entry)) at (decimal x) ⌝ }
-    ensures { λ r. ⌜ r ≤ at + 20 ⌝ }
-{
-    let n = digits(x);
-    spell(out, at, n, x);
-    at + n
+    put_long(out, at, x as u64)
 }
 
 // Given bytes from a place of the buffer on; the place after them.

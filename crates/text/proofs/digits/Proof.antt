@@ -5,64 +5,34 @@ use Rattle.text.proofs.digits.Statement.{statement}
 use Rattle.text.proofs.digits.Tie as tie
 
 returns : tie.Need-returns
-returns c = (omega arith, decimal-one (c .before .args .x) (omega arith), λ h. omega arith)
+returns c = (omega arith, decimal-one (c .before .args .x) (omega arith))
 
 returns-2 : tie.Need-returns-2
-returns-2 c = (omega arith, decimal-more 1 (c .before .before .args .x) (omega arith) (omega arith), λ h. omega arith)
+returns-2 c = (omega arith, decimal-more 1 (c .before .before .args .x) (omega arith) (omega arith))
 
 returns-3 : tie.Need-returns-3
-returns-3 c = (omega arith, decimal-more 2 (c .before .before .before .args .x) (omega arith) (omega arith), λ h. omega arith)
+returns-3 c = (omega arith, decimal-more 2 (c .before .before .before .args .x) (omega arith) (omega arith))
 
 returns-4 : tie.Need-returns-4
-returns-4 c = (omega arith, decimal-more 3 (c .before .before .before .before .args .x) (omega arith) (omega arith), λ h. omega arith)
+returns-4 c = (omega arith, decimal-more 3 (c .before .before .before .before .args .x) (omega arith) (omega arith))
 
 returns-5 : tie.Need-returns-5
-returns-5 c = (omega arith, decimal-more 4 (c .before .before .before .before .before .args .x) (omega arith) (omega arith), λ h. omega arith)
+returns-5 c = (omega arith, decimal-more 4 (c .before .before .before .before .before .args .x) (omega arith) (omega arith))
 
 returns-6 : tie.Need-returns-6
-returns-6 c = (omega arith, decimal-more 5 (c .before .before .before .before .before .before .args .x) (omega arith) (omega arith), λ h. omega arith)
+returns-6 c = (omega arith, decimal-more 5 (c .before .before .before .before .before .before .args .x) (omega arith) (omega arith))
 
 returns-7 : tie.Need-returns-7
-returns-7 c = (omega arith, decimal-more 6 (c .before .before .before .before .before .before .before .args .x) (omega arith) (omega arith), λ h. omega arith)
+returns-7 c = (omega arith, decimal-more 6 (c .before .before .before .before .before .before .before .args .x) (omega arith) (omega arith))
 
 returns-8 : tie.Need-returns-8
-returns-8 c = (omega arith, decimal-more 7 (c .before .before .before .before .before .before .before .before .args .x) (omega arith) (omega arith), λ h. omega arith)
+returns-8 c = (omega arith, decimal-more 7 (c .before .before .before .before .before .before .before .before .args .x) (omega arith) (omega arith))
 
 returns-9 : tie.Need-returns-9
-returns-9 c = (omega arith, decimal-more 8 (c .before .before .before .before .before .before .before .before .before .args .x) (omega arith) (omega arith), λ h. omega arith)
+returns-9 c = (omega arith, decimal-more 8 (c .before .before .before .before .before .before .before .before .before .args .x) (omega arith) (omega arith))
 
 returns-10 : tie.Need-returns-10
-returns-10 c = (omega arith, decimal-more 9 (c .before .before .before .before .before .before .before .before .before .before .args .x) (omega arith) (omega arith), λ h. omega arith)
-
-returns-11 : tie.Need-returns-11
-returns-11 c = (omega arith, decimal-more 10 (c .before .before .before .before .before .before .before .before .before .before .before .args .x) (omega arith) (omega arith), λ h. omega arith)
-
-returns-12 : tie.Need-returns-12
-returns-12 c = (omega arith, decimal-more 11 (c .before .before .before .before .before .before .before .before .before .before .before .before .args .x) (omega arith) (omega arith), λ h. omega arith)
-
-returns-13 : tie.Need-returns-13
-returns-13 c = (omega arith, decimal-more 12 (c .before .before .before .before .before .before .before .before .before .before .before .before .before .args .x) (omega arith) (omega arith), λ h. omega arith)
-
-returns-14 : tie.Need-returns-14
-returns-14 c = (omega arith, decimal-more 13 (c .before .before .before .before .before .before .before .before .before .before .before .before .before .before .args .x) (omega arith) (omega arith), λ h. omega arith)
-
-returns-15 : tie.Need-returns-15
-returns-15 c = (omega arith, decimal-more 14 (c .before .before .before .before .before .before .before .before .before .before .before .before .before .before .before .args .x) (omega arith) (omega arith), λ h. omega arith)
-
-returns-16 : tie.Need-returns-16
-returns-16 c = (omega arith, decimal-more 15 (c .before .before .before .before .before .before .before .before .before .before .before .before .before .before .before .before .args .x) (omega arith) (omega arith), λ h. omega arith)
-
-returns-17 : tie.Need-returns-17
-returns-17 c = (omega arith, decimal-more 16 (c .before .before .before .before .before .before .before .before .before .before .before .before .before .before .before .before .before .args .x) (omega arith) (omega arith), λ h. omega arith)
-
-returns-18 : tie.Need-returns-18
-returns-18 c = (omega arith, decimal-more 17 (c .before .before .before .before .before .before .before .before .before .before .before .before .before .before .before .before .before .before .args .x) (omega arith) (omega arith), λ h. omega arith)
-
-returns-19 : tie.Need-returns-19
-returns-19 c = (omega arith, decimal-more 18 (c .before .before .before .before .before .before .before .before .before .before .before .before .before .before .before .before .before .before .before .args .x) (omega arith) (omega arith), λ h. omega arith)
-
-returns-20 : tie.Need-returns-20
-returns-20 c = (omega arith, decimal-more 19 (c .before .before .before .before .before .before .before .before .before .before .before .before .before .before .before .before .before .before .before .args .x) (omega arith) (omega arith), λ h. omega arith)
+returns-10 c = (omega arith, decimal-more 9 (c .before .before .before .before .before .before .before .before .before .args .x) (omega arith) (omega arith))
 
 pub digits-spec : {M : Type 1} → statement M
 digits-spec =
@@ -77,14 +47,4 @@ digits-spec =
     returns-7
     returns-8
     returns-9
-    returns-10
-    returns-11
-    returns-12
-    returns-13
-    returns-14
-    returns-15
-    returns-16
-    returns-17
-    returns-18
-    returns-19
-    returns-20)
+    returns-10)
