@@ -119,7 +119,7 @@ fn put_six(out: &mut [u8], at: usize, a: u32, b: u32, c: u32, d: u32, e: u32, f:
 }
 
 // A row: the six words from a place on; the place after the line.
-pub fn put_row(out: &mut [u8], at: usize, words: &[u32], from: usize) -> usize
+fn put_row(out: &mut [u8], at: usize, words: &[u32], from: usize) -> usize
     requires { ⌜ (at + 66 ≤ length (now out)) × (from + 6 ≤ length (now words)) ⌝ }
     ensures { λ r. ⌜ r ≡ at + length (rowText (take 6 (drop from (now (words .entry))))) ⌝ }
     ensures { λ r. ⌜ now (out .exit) ≡ sets (now (out .entry)) at (rowText (take 6 (drop from (now (words .entry))))) ⌝ }
