@@ -1,4 +1,4 @@
--- Horizon list and busy columns of a board: what was surveyed serves them, and each refusal is the book's. Assumes nothing.
+-- Horizon list and busy columns of a board: its live table serves them, and each refusal is the book's. Assumes nothing.
 use Prim.Native.Nat.{ℕ, zero, suc, _*_, _≤_, _<_}
 use mathlib.Core.Path.{_≡_, sym, ap, _∙_}
 use mathlib.Core.Bool.{true, false}
@@ -7,23 +7,20 @@ use native.Mathlib.Omega.{arith}
 use lib.Dec.{T, ltb}
 use lib.ListN.{length}
 use borrow.Author.Tests.{lt-ltb, le-ltb}
-use Rattle.lists.specs.Lists.{all?}
 use Rattle.tasks.specs.declared.Task.{Task}
-use Rattle.planners.specs.Lent.{tasksOf, OnDevice, asked}
-use Rattle.planners.proofs.Bare.{bare, lent-tasks}
-use Rattle.slots.specs.declared.Findings.{Findings}
-use Rattle.slots.specs.Slots.{slotSound}
-use Rattle.slots.specs.Survey.{Surveyed}
-use Rattle.slots.proofs.Soundness.{sound-out, each-sound}
+use Rattle.slots.proofs.Soundness.{sound-out}
+use Rattle.live.specs.Live.{tasksOf, OnDevice}
+use Rattle.live.specs.Kept.{Stands}
+use Rattle.live.proofs.Planned.{on-device, same-tasks}
 use Rattle.lookups.specs.Lookups.{horizonList, busyColumns}
 use Rattle.lookups.proofs.Bare.{horizon-list-bare, busy-bare}
+use Rattle.lookups.proofs.Orderless.{horizon-list-orderless, busy-orderless}
 use Rattle.strips.specs.Strips.{written}
 use Rattle.board.specs.declared.Board.{Board}
 use Rattle.board.specs.Refusals.{_when_, refusal, liveOf, soundBoard, passed, beyond, refusedInstant, horizonOf, refusedHorizon}
 use Rattle.board.specs.Calls.{orRefused, listed, listedBuffer, counted}
 use Rattle.board.proofs.Refusals.{refused-by, passed-over, sound-passes, unsound-refused}
 use Rattle.board.proofs.Kept.{SoundBoard}
-use Rattle.board.proofs.Submit.{on-device}
 
 pub listed-unsound : (b : Board) (buffer : List ℕ) → soundBoard b ≡ false
     → (record { number = 1; count = 0; board = b } ≡ listed b (length buffer)) × (buffer ≡ listedBuffer b buffer)
@@ -36,33 +33,24 @@ pub counted-unsound : (b : Board) (i : ℕ) → soundBoard b ≡ false → count
 unfolding counted refusedInstant orRefused
 counted-unsound b i e = rw (unsound-refused b (passed b i ∷ beyond i ∷ []) e)
 
-module _ (b : Board) (v : Findings) (o : Surveyed (b .columns) (b .rows) (b .now) (b .tasks) v) (good : soundBoard b ≡ true) where
+module _ (b : Board) (count : ℕ) (rows : List ℕ) (o : Stands 64 (b .tasks) count rows) (good : soundBoard b ≡ true) where
   -- the tasks as they are lent
   abbrev ts : List Task
-  ts = tasksOf (v .count) (v .start) (v .finish) (v .left) (v .past)
-
-  every : T (all? (slotSound (b .columns) (b .rows) (b .now)) (b .tasks))
-  every = each-sound (b .columns) (b .rows) (b .now) (b .tasks) (rw good tt)
-
-  s : SoundBoard b
-  s = sound-out (b .columns) (b .rows) (b .now) (b .tasks) (rw good tt)
-
-  lent : ts ≡ map bare (liveOf b)
-  lent = lent-tasks (v .count) (v .start) (v .finish) (v .left) (v .past) (liveOf b) (o .count) (o .starts) (o .finishes every) (o .lefts) (o .pasts)
+  ts = tasksOf count rows
 
   -- they lie on the device
-  pub lent-on : OnDevice (b .columns) (v .count) (v .start) (v .finish) (v .left) (v .past)
-  lent-on = on-device b 0 (asked 0 0 0) v o good
+  pub lent-on : OnDevice (b .columns) count rows
+  lent-on = on-device (b .columns) (b .rows) (b .now) (b .tasks) count rows o good
 
   pub has-columns : 1 ≤ b .columns
-  has-columns = s .columns .low
+  has-columns = let s : SoundBoard b = sound-out (b .columns) (b .rows) (b .now) (b .tasks) (rw good tt) in s .columns .low
 
   -- THE HORIZON LIST AND THE BUSY COLUMNS of what is lent are the board's
   horizon-lent : horizonList (b .columns) (b .now) ts ≡ horizonOf b
-  horizon-lent = ap (horizonList (b .columns) (b .now)) lent ∙ horizon-list-bare (liveOf b) (b .columns) (b .now)
+  horizon-lent = horizon-list-orderless (same-tasks (b .columns) (b .rows) (b .now) (b .tasks) count rows o good) (b .columns) (b .now) ∙ horizon-list-bare (liveOf b) (b .columns) (b .now)
 
   busy-lent : (i : ℕ) → busyColumns (b .columns) ts i ≡ busyColumns (b .columns) (liveOf b) i
-  busy-lent i = ap (λ us. busyColumns (b .columns) us i) lent ∙ busy-bare (liveOf b) (b .columns) i
+  busy-lent i = busy-orderless (same-tasks (b .columns) (b .rows) (b .now) (b .tasks) count rows o good) (b .columns) i ∙ busy-bare (liveOf b) (b .columns) i
 
   module _ (buffer : List ℕ) {n : ℕ} {after : List ℕ} (e : n ≡ length (horizonList (b .columns) (b .now) ts)) (w : after ≡ written (horizonList (b .columns) (b .now) ts) buffer) where
     is-length : n ≡ length (horizonOf b)

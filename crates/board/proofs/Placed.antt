@@ -96,6 +96,13 @@ placed-books b n a {free} {c} {s} {f} z e =
       same = accepted-answered b n a r ∙ ap (taken b a) (t .0) ∙ booked-there b a c s free z;
     }
 
+-- a rejection and a refusal are no place
+pub rejected-places : (c s f : ℕ) → Rejected ≡ Placed c s f → ⊥
+rejected-places c s f q = let w : _≡_ {A = ℕ} 0 1 = cc in omega arith
+
+pub refused-places : (m c s f : ℕ) → Refused m ≡ Placed c s f → ⊥
+refused-places m c s f q = let w : _≡_ {A = ℕ} 0 1 = cc in omega arith
+
 -- an answer that is no place hands back the same board
 pub unplaced-same : (b : Board) (n : ℕ) (a : Submission) (x : Answer) → submitted b n a .answer ≡ x → ((c s f : ℕ) → x ≡ Placed c s f → ⊥) → submitted b n a ≡ record { answer = x; board = b }
 unplaced-same b n a x e none? = go (refusedSubmit b n a) refl

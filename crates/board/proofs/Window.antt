@@ -1,4 +1,4 @@
--- A request for openings to a sound board: what was surveyed serves the refusals and the list. Assumes nothing.
+-- A request for openings to a sound board: its live table serves the list. Assumes nothing.
 use Prim.Native.Nat.{ℕ, zero, suc, _+_, _/_, _≤_, _<_}
 use mathlib.Core.Path.{_≡_, refl, sym, ap, _∙_}
 use mathlib.Core.Bool.{true, false}
@@ -14,10 +14,13 @@ use Rattle.tasks.specs.Numbers.{within, sizeFits, timeFits}
 use Rattle.tasks.proofs.Laws.{Between, within-out}
 use Rattle.tasks.specs.Tasks.{meets, stamped, booked}
 use Rattle.planners.specs.Openings.{ways, pairWords}
-use Rattle.planners.specs.Lent.{tasksOf, OnDevice, asked}
+use Rattle.planners.specs.declared.Window.{Window}
+use Rattle.planners.specs.Lent.{Fits, wanted}
 use Rattle.planners.proofs.Bare.{after-bare}
-use Rattle.slots.specs.declared.Findings.{Findings}
-use Rattle.slots.specs.Survey.{Surveyed}
+use Rattle.planners.proofs.Orderless.{after-orderless}
+use Rattle.live.specs.Live.{tasksOf, Masked, Lent}
+use Rattle.live.specs.Kept.{Kept}
+use Rattle.live.proofs.Planned.{same-tasks, kept-lent}
 use Rattle.openings.specs.declared.Filled.{Filled}
 use Rattle.openings.specs.Filled.{filledOf}
 use Rattle.board.specs.declared.Board.{Board}
@@ -25,7 +28,6 @@ use Rattle.board.specs.declared.Opened.{Opened}
 use Rattle.board.specs.Refusals.{Test, refusal, liveOf, soundBoard, badSize, badTime, tooLate, refusedOpenings}
 use Rattle.board.specs.Calls.{orRefused, remaining, opened, openedBuffer}
 use Rattle.board.proofs.Refusals.{none-holds, sound-passes, unsound-refused}
-use Rattle.board.proofs.Submit.{on-device, lent}
 
 -- the tests after test 1
 abbrev pub windowTests : Board → Submission → List Test
@@ -69,37 +71,41 @@ module _ (b : Board) (a : Submission) (s c : ℕ) (buffer : List ℕ) where
   pub unsound-opened : soundBoard b ≡ false → Promised (record { number = 1; count = 0; more = false; board = b }) buffer
   unsound-opened e = refused-opened 1 ((unfold refusedOpenings in unsound-refused b (windowTests b a) e)) (omega arith)
 
-  module _ (v : Findings) (o : Surveyed (b .columns) (b .rows) (b .now) (b .tasks) v) (good : soundBoard b ≡ true) {r : ℕ} (e : r ≡ refusal (windowTests b a)) where
+  module _ (count : ℕ) (rows : List ℕ) (o : Kept (b .columns) (b .rows) (b .now) (b .tasks) count rows) {r : ℕ} (e : r ≡ refusal (windowTests b a)) where
     tests : refusedOpenings b a ≡ r
     unfolding refusedOpenings
-    tests = sound-passes b (windowTests b a) good ∙ sym e
+    tests = sound-passes b (windowTests b a) (o .good) ∙ sym e
 
     pub window-refused : 0 < r → Promised (record { number = r; count = 0; more = false; board = b }) buffer
     window-refused h = refused-opened r tests h
 
     module _ (z : r ≡ 0) where
-      -- what the list asks
-      pub may-list : OnDevice (b .columns) (v .count) (v .start) (v .finish) (v .left) (v .past) × ((1 ≤ a .w) × (a .w ≤ b .columns) × (1 ≤ a .e) × (b .now + a .e ≤ a .d) × (a .d ≤ 2000000000))
-      may-list =
-          let k = window b a (sym e ∙ z) in
-          (on-device b 0 a v o good, (k .w .low, k .w .high, k .e .low, k .reachable, k .d))
+      -- what is asked
+      abbrev q : Window
+      q = record { width = b .columns; clock = b .now; w = a .w; e = a .e; d = a .d }
 
-      -- the list over what was surveyed is the book's
-      remaining-lent : openingsAfter (ways (b .columns) (b .now) (tasksOf (v .count) (v .start) (v .finish) (v .left) (v .past)) (asked (a .w) (a .e) (a .d))) (pair s c) ≡ remaining b a s c
+      -- what the list asks
+      pub may-list : {masks : List ℕ} → Masked count rows masks → Lent (b .columns) count rows masks × Fits q
+      may-list m =
+          let k = window b a (sym e ∙ z) in
+          (kept-lent o m, record { wide = k .w .low; columns = k .w .high; long = k .e .low; in-time = k .reachable; until = k .d })
+
+      -- the list over the live table is the book's
+      remaining-lent : openingsAfter (ways (b .columns) (b .now) (tasksOf count rows) (wanted q)) (pair s c) ≡ remaining b a s c
       unfolding remaining
       remaining-lent =
-          ap (λ ts. openingsAfter (ways (b .columns) (b .now) ts (asked (a .w) (a .e) (a .d))) (pair s c)) (lent b 0 a v o good)
-          ∙ after-bare (b .columns) (b .now) (liveOf b) (asked (a .w) (a .e) (a .d)) (pair s c)
+          after-orderless (same-tasks (b .columns) (b .rows) (b .now) (b .tasks) count rows (o .stands) (o .good)) (b .columns) (b .now) (wanted q) (pair s c)
+          ∙ after-bare (b .columns) (b .now) (liveOf b) (wanted q) (pair s c)
           ∙ (unfold openingsAfter after ways booked stamped meets in refl)
 
       -- DONE
       pub listed-opened : {f : Filled} {written : List ℕ}
-          → f ≡ filledOf (length buffer) (openingsAfter (ways (b .columns) (b .now) (tasksOf (v .count) (v .start) (v .finish) (v .left) (v .past)) (asked (a .w) (a .e) (a .d))) (pair s c))
-          → written ≡ overFront (pairWords (take (length buffer / 2) (openingsAfter (ways (b .columns) (b .now) (tasksOf (v .count) (v .start) (v .finish) (v .left) (v .past)) (asked (a .w) (a .e) (a .d))) (pair s c)))) buffer
+          → f ≡ filledOf (length buffer) (openingsAfter (ways (b .columns) (b .now) (tasksOf count rows) (wanted q)) (pair s c))
+          → written ≡ overFront (pairWords (take (length buffer / 2) (openingsAfter (ways (b .columns) (b .now) (tasksOf count rows) (wanted q)) (pair s c)))) buffer
           → Promised (record { number = 0; count = f .count; more = f .more; board = b }) written
       unfolding opened openedBuffer orRefused filledOf
-      listed-opened {f} {written} p q =
+      listed-opened {f} {written} p t =
           let n : refusedOpenings b a ≡ 0 = tests ∙ z in (
             rw n (ap (λ (g : Filled). record { number = 0; count = g .count; more = g .more; board = b }) (p ∙ ap (filledOf (length buffer)) remaining-lent)),
-            rw n (q ∙ ap (λ ps. overFront (pairWords (take (length buffer / 2) ps)) buffer) remaining-lent),
+            rw n (t ∙ ap (λ ps. overFront (pairWords (take (length buffer / 2) ps)) buffer) remaining-lent),
           )

@@ -1,7 +1,7 @@
 -- The calls of a recording's run, without the test of refusal 1: what they answer for every board. No public promise cites them. Assumes nothing.
 use Prim.Native.Nat.{ℕ, _+_}
 use mathlib.Core.Path.{_≡_}
-use mathlib.Core.Bool.{Bool, true, cond}
+use mathlib.Core.Bool.{cond}
 use mathlib.Core.List.{List, [], _∷_}
 use lib.Dec.{ltb}
 use lib.ListN.{getD, set}
@@ -10,8 +10,9 @@ use Rattle.tasks.specs.Numbers.{mostTasks}
 use Rattle.tasks.specs.declared.Task.{Task}
 use Rattle.tasks.specs.declared.Submission.{Submission}
 use Rattle.tasks.specs.Tasks.{runningPhase, freeSlot, booked}
-use Rattle.slots.specs.Slots.{named, sound}
-use Rattle.slots.specs.Survey.{Surveyed}
+use Rattle.slots.specs.Slots.{named}
+use Rattle.live.specs.Live.{Masked}
+use Rattle.live.specs.Kept.{Kept, lowestFree}
 use Rattle.board.specs.declared.Board.{Board}
 use Rattle.board.specs.declared.Answer.the-variants.{Placed}
 use Rattle.board.specs.declared.Submitted.{Submitted}
@@ -46,10 +47,9 @@ submittedBooked b a i c t =
 abbrev pub boardOf : List Task → ℕ → ℕ → ℕ → Board
 boardOf ks now W H = record { tasks = ks; now = now; columns = W; rows = H }
 
--- the live tasks of a sound board, lent as arrays of numbers
-pub record Standing (W H now : ℕ) (id s f l r : List ℕ) (n : ℕ) : Type 0 where
+-- the live table of a sound board is lent, as planner number p reads it, and its lowest free slot told
+pub record Standing (W H now n free planner : ℕ) (rows masks : List ℕ) : Type 0 where
   pub slots : List Task
-  pub free : ℕ
-  pub well : Bool
-  pub surveyed : Surveyed W H now slots (record { id = id; start = s; finish = f; left = l; past = r; count = n; free = free; sound = well })
-  pub good : sound W H now slots ≡ true
+  pub kept : Kept W H now slots n rows
+  pub lowest : free ≡ lowestFree slots
+  pub masked : (planner ≡ 1 → ⊥) → (planner ≡ 2 → ⊥) → Masked n rows masks

@@ -1,19 +1,21 @@
 // The board of document 01, its calls and what they answer. The calls test what they are handed and put the answer together;
 // the work is done in the crates below.
 ghost use mathlib.Core.Path.{_≡_};
-ghost use mathlib.Core.Bool.{Bool, true};
 ghost use mathlib.Core.List.{List};
 ghost use Prim.Native.Nat.{ℕ, _+_, _≤_, _<_};
 ghost use lib.ListN.{length};
 ghost use Rattle.tasks.specs.declared.Task.{Task};
-ghost use Rattle.slots.specs.Slots.{sound};
-ghost use Rattle.slots.specs.Survey.{Surveyed};
+ghost use Rattle.live.specs.Live.{Masked};
+ghost use Rattle.live.specs.Kept.{Kept, lowestFree};
 ghost use Rattle.board.specs.declared.Answer.the-variants.{Placed};
 ghost use Rattle.board.specs.Answers.{told};
 ghost use Rattle.board.specs.Refusals.{soundBoard};
 ghost use Rattle.board.specs.Calls.{freshBoard, created, submitted, clocked, withdrawn, opened, openedBuffer, listed, listedBuffer, counted};
 ghost use Rattle.board.specs.Untested.{clockedUntested, withdrawnUntested, submittedBooked, boardOf, Standing};
+use live::Live;
+use live::Masks;
 use planners::Found;
+use planners::Window;
 use tasks::Submission;
 use tasks::Task;
 
@@ -79,40 +81,53 @@ pub struct Counted {
     pub board: Board,
 }
 
-// What a task submitted to a sound board is answered, its live tasks lent: 3 to 9, a place, or the rejection.
+// The words of the live tasks' columns, for a planner that reads them.
+fn mark_for<'a>(planner: u8, live: &'a Live, n: usize, masks: &'a mut Masks)
+    requires { ⌜ (n ≤ 64) × (length (now masks) ≡ 256) ⌝ }
+    ensures { λ _. ⌜ ((planner ≡ 1 → ⊥) → (planner ≡ 2 → ⊥) → Masked n (now (live .entry)) (now (masks .exit))) ⌝ }
+{
+    if planner == 1 {
+        return;
+    }
+    if planner == 2 {
+        return;
+    }
+    sorting::mark(live, n, masks);
+}
+
+// What a task submitted to a sound board is answered, its live tasks lent: 3 to 9, a place, or the rejection. `free` is the lowest
+// free slot.
 pub fn decide<'a>(
-    id: &'a [u32; 64],
-    start: &'a [u32; 64],
-    finish: &'a [u32; 64],
-    left: &'a [u32; 64],
-    past: &'a [u32; 64],
+    live: &'a Live,
+    masks: &'a Masks,
     count: usize,
+    free: usize,
     columns: u16,
     rows: u16,
     clock: u32,
     planner: u8,
     a: Submission,
 ) -> Answer
-    requires { ⌜ Standing columns rows clock (now id) (now start) (now finish) (now left) (now past) count ⌝ }
-    ensures { λ r. ⌜ ((ks : List Task) (free : ℕ) (well : Bool) → Surveyed columns rows clock ks (record { id = now (id .entry); start = now (start .entry); finish = now (finish .entry); left = now (left .entry); past = now (past .entry); count = count; free = free; sound = well }) → sound columns rows clock ks ≡ true → r ≡ submitted (boardOf ks clock columns rows) planner a .answer) ⌝ }
+    requires { ⌜ Standing columns rows clock count free planner (now live) (now masks) ⌝ }
+    ensures { λ r. ⌜ ((ks : List Task) → Kept columns rows clock ks count (now (live .entry)) → free ≡ lowestFree ks → r ≡ submitted (boardOf ks clock columns rows) planner a .answer) ⌝ }
 {
-    let known = apart::among(id, count, a.id);
-    let number = refusals::refuse(planner, columns, rows, clock, a, known, count);
+    let known = keeping::among(live, count, a.id);
+    let number = refusals::refuse(planner, columns, rows, clock, a, known, free);
     if 0 < number {
         return Answer::Refused(number);
     }
     let found = place::place(
         planner,
-        start,
-        finish,
-        left,
-        past,
+        live,
+        masks,
         count,
-        columns as u32,
-        clock,
-        a.w as u32,
-        a.e,
-        a.d,
+        Window {
+            width: columns as u32,
+            clock: clock,
+            w: a.w as u32,
+            e: a.e,
+            d: a.d,
+        },
     );
     match found {
         Found::Nothing => Answer::Rejected,
@@ -174,28 +189,28 @@ impl Board {
         ensures { λ r. ⌜ told (r .answer) ≡ told (submitted self planner a .answer) ⌝ }
     {
         let tasks = self.tasks;
-        let v = survey::survey(self.columns, self.rows, self.now, tasks);
-        if !pairs::found_sound(self.columns, self.rows, self.now, v) {
+        let mut live = [0u32; 384];
+        let v = pairs::test(self.columns, self.rows, self.now, tasks, &mut live);
+        if !v.sound {
             return Submitted {
                 answer: Answer::Refused(1),
                 board: self,
             };
         }
-        let n = v.count;
+        let mut masks = [0u64; 256];
+        mark_for(planner, &live, v.count, &mut masks);
+        let free = live::lowest_free(v.used) as usize;
         let answer = decide(
-            &v.id,
-            &v.start,
-            &v.finish,
-            &v.left,
-            &v.past,
-            n,
+            &live,
+            &masks,
+            v.count,
+            free,
             self.columns,
             self.rows,
             self.now,
             planner,
             a,
         );
-        let free = v.free;
         match answer {
             Answer::Rejected => Submitted {
                 answer: Answer::Rejected,
@@ -316,8 +331,17 @@ impl Board {
         ensures { λ r. ⌜ now (buffer .exit) ≡ openedBuffer self a start column (now (buffer .entry)) ⌝ }
     {
         let tasks = self.tasks;
-        let v = survey::survey(self.columns, self.rows, self.now, tasks);
-        if !pairs::found_sound(self.columns, self.rows, self.now, v) {
+        let mut live = [0u32; 384];
+        let mut masks = [0u64; 256];
+        let v = pairs::stand(
+            self.columns,
+            self.rows,
+            self.now,
+            tasks,
+            &mut live,
+            &mut masks,
+        );
+        if !v.sound {
             return Opened {
                 number: 1,
                 count: 0,
@@ -334,18 +358,17 @@ impl Board {
                 board: self,
             };
         }
-        let n = v.count;
         let filled = openings::list(
-            &v.start,
-            &v.finish,
-            &v.left,
-            &v.past,
-            n,
-            self.columns as u32,
-            self.now,
-            a.w as u32,
-            a.e,
-            a.d,
+            &live,
+            &masks,
+            v.count,
+            Window {
+                width: self.columns as u32,
+                clock: self.now,
+                w: a.w as u32,
+                e: a.e,
+                d: a.d,
+            },
             start,
             column,
             buffer,
@@ -363,8 +386,9 @@ impl Board {
         ensures { λ _. ⌜ now (buffer .exit) ≡ listedBuffer self (now (buffer .entry)) ⌝ }
     {
         let tasks = self.tasks;
-        let v = survey::survey(self.columns, self.rows, self.now, tasks);
-        if !pairs::found_sound(self.columns, self.rows, self.now, v) {
+        let mut live = [0u32; 384];
+        let v = pairs::test(self.columns, self.rows, self.now, tasks, &mut live);
+        if !v.sound {
             return Listed {
                 number: 1,
                 count: 0,
@@ -372,16 +396,7 @@ impl Board {
             };
         }
         let room = buffer.len();
-        let n = strips::strips(
-            &v.start,
-            &v.finish,
-            &v.left,
-            &v.past,
-            v.count,
-            self.columns as u32,
-            self.now,
-            buffer,
-        );
+        let n = strips::strips(&live, v.count, self.columns as u32, self.now, buffer);
         if room < 3 * n {
             return Listed {
                 number: 17,
@@ -401,8 +416,9 @@ impl Board {
         ensures { λ r. ⌜ r ≡ counted self instant ⌝ }
     {
         let tasks = self.tasks;
-        let v = survey::survey(self.columns, self.rows, self.now, tasks);
-        if !pairs::found_sound(self.columns, self.rows, self.now, v) {
+        let mut live = [0u32; 384];
+        let v = pairs::test(self.columns, self.rows, self.now, tasks, &mut live);
+        if !v.sound {
             return Counted {
                 number: 1,
                 count: 0,
@@ -417,15 +433,7 @@ impl Board {
                 board: self,
             };
         }
-        let count = busy::busy(
-            &v.start,
-            &v.finish,
-            &v.left,
-            &v.past,
-            v.count,
-            self.columns as u32,
-            instant,
-        );
+        let count = busy::busy(&live, v.count, self.columns as u32, instant);
         Counted {
             number: 0,
             count: count,

@@ -7,7 +7,6 @@ use mathlib.Core.List.{List, map}
 use native.Mathlib.Omega.{arith}
 use native.Mathlib.Decide.{decLt}
 use lib.Dec.{T, ltb, ltb→lt, lt→ltb}
-use lib.ListN.{getD}
 use Rattle.lists.specs.Lists.{_∈_, some?, range}
 use Rattle.lists.proofs.Bools.{and-l, and-r, and-i, or-l, or-r, or-cases, is-true, same-bool}
 use Rattle.lists.proofs.Append.{some-same, some-map}
@@ -16,10 +15,11 @@ use Rattle.ways.specs.Ways.{pair}
 use Rattle.tasks.specs.declared.Task.{Task}
 use Rattle.tasks.specs.Tasks.{finish, overlap, covers}
 use Rattle.tasks.proofs.Laws.{overlap-common, common-overlap, covers-in, covers-out}
-use Rattle.planners.specs.Lent.{OnDevice, taskAt, tasksOf, asked}
+use Rattle.live.specs.Live.{startAt, finishAt, taskAt, tasksOf, OnDevice, After, NextFinish}
+use Rattle.planners.specs.Lent.{asked}
 use Rattle.planners.proofs.Openings.{Opening}
 use Rattle.words.specs.Words.{column}
-use Rattle.held.specs.Held.{inStay, Held, Clear, NextFinish, Unchanged}
+use Rattle.held.specs.Held.{inStay, Held, Clear, Unchanged}
 
 -- A column that is clear is held by no task, and lies on the device
 module _ (W t e : ℕ) (ts : List Task) (words : List ℕ) (h : Held W t e ts words) where
@@ -68,32 +68,33 @@ module _ (W t e : ℕ) (ts : List Task) (words : List ℕ) (h : Held W t e ts wo
           pick (inr i) = omega (arith, ltb→lt W x i, o .on-device)
 
 -- no task finishes between t and the next finish
-pub next-of : (W n : ℕ) (s f l r : List ℕ) → OnDevice W n s f l r → {t x : ℕ} → NextFinish f n t x → (u : Task) → u ∈ tasksOf n s f l r → t < finish u → x ≤ finish u
+pub next-of : (W n : ℕ) (live : List ℕ) → OnDevice W n live → {t x : ℕ} → NextFinish live n t x → (u : Task) → u ∈ tasksOf n live → t < finish u → x ≤ finish u
 unfolding tasksOf
-next-of W n s f l r o b u m y =
-    let j = map-in (taskAt s f l r) (range 0 n) m in
+next-of W n live o b u m y =
+    let j = map-in (taskAt live) (range 0 n) m in
     let i : ℕ = j .0 in
     let a : i < n = omega (arith, range-in 0 n (j .1) .high) in
-    let v : getD s i 0 + (getD f i 0 - getD s i 0) ≡ getD f i 0 = omega (arith, o .ticks i a) in
-    let q : finish u ≡ getD f i 0 = ap finish (j .2) ∙ v in
+    let v : startAt live i + (finishAt live i - startAt live i) ≡ finishAt live i = omega (arith, o .ticks i a) in
+    let q : finish u ≡ finishAt live i = ap finish (j .2) ∙ v in
     rw q (b .least i a (rw q at y))
 
 -- UNTIL THE NEXT CHANGE the columns that are held stay the same
-pub held-lasts : (W n : ℕ) (s f l r : List ℕ) → OnDevice W n s f l r → (t e x : ℕ) → 1 ≤ e → Unchanged s f n t e x → (words : List ℕ) → Held W t e (tasksOf n s f l r) words
-    → (v : ℕ) → t ≤ v → v < x → Held W v e (tasksOf n s f l r) words
+pub held-lasts : (W n : ℕ) (live : List ℕ) → OnDevice W n live → (t e x : ℕ) → 1 ≤ e → Unchanged live n t e x → (words : List ℕ) → Held W t e (tasksOf n live) words
+    → (v : ℕ) → t ≤ v → v < x → Held W v e (tasksOf n live) words
 unfolding tasksOf inStay
-held-lasts W n s f l r o t e x k b words h v p q c y z = h c y z ∙ ap (λ g. g || ltb W c) (same t ∙ some-same (λ i. inStay t e c (taskAt s f l r i)) (λ i. inStay v e c (taskAt s f l r i)) (range 0 n) each ∙ sym (same v))
+held-lasts W n live o t e x k b words h v p q c y z =
+    h c y z ∙ ap (λ g. g || ltb W c) (same t ∙ some-same (λ i. inStay t e c (taskAt live i)) (λ i. inStay v e c (taskAt live i)) (range 0 n) each ∙ sym (same v))
   where
-    same : (u : ℕ) → some? (inStay u e c) (map (taskAt s f l r) (range 0 n)) ≡ some? (λ i. inStay u e c (taskAt s f l r i)) (range 0 n)
-    same u = some-map (inStay u e c) (taskAt s f l r) (range 0 n)
+    same : (u : ℕ) → some? (inStay u e c) (map (taskAt live) (range 0 n)) ≡ some? (λ i. inStay u e c (taskAt live i)) (range 0 n)
+    same u = some-map (inStay u e c) (taskAt live) (range 0 n)
 
-    each : (i : ℕ) → i ∈ range 0 n → inStay t e c (taskAt s f l r i) ≡ inStay v e c (taskAt s f l r i)
+    each : (i : ℕ) → i ∈ range 0 n → inStay t e c (taskAt live i) ≡ inStay v e c (taskAt live i)
     each i m =
         let j : i < n = omega (arith, range-in 0 n m .high) in
-        ap (λ u. u && covers c (taskAt s f l r i)) (in-time (getD s i 0) (getD f i 0) (o .ticks i j) (b .finishes i j) (b .starts i j))
+        ap (λ u. u && covers c (taskAt live i)) (in-time (startAt live i) (finishAt live i) (o .ticks i j) (b .finishes i j) (b .starts i j))
       where
         -- a task is in the stay from t on exactly if it is in the stay from v on
-        in-time : (a g : ℕ) → a < g → (t < g → x ≤ g) → (t + e ≤ a → x + e ≤ a + 1) → overlap t e a (g - a) ≡ overlap v e a (g - a)
+        in-time : (a g : ℕ) → a < g → (t < g → x ≤ g) → (t < g → t + e ≤ a → x + e ≤ a + 1) → overlap t e a (g - a) ≡ overlap v e a (g - a)
         in-time a g w leaves comes =
             same-bool (overlap t e a (g - a)) (overlap v e a (g - a))
             (λ u.
@@ -106,4 +107,12 @@ held-lasts W n s f l r o t e x k b words h v p q c y z = h c y z ∙ ap (λ g. g
           where
             within : Dec (a < t + e) → a < v + e → v < g → max t a < min (t + e) (a + (g - a))
             within (yes y) m z = omega arith
-            within (no y) m z = absurd (omega (arith, comes (omega arith)))
+            within (no y) m z = absurd (omega (arith, comes (omega arith) (omega arith)))
+
+-- and no task finishes
+pub after-lasts : {n t e x r : ℕ} {live : List ℕ} → After live n t r → Unchanged live n t e x → (v : ℕ) → t ≤ v → v < x → After live n v r
+after-lasts {n} {t} {e} {x} {r} {live} a b v p q = record {
+  few = a .few;
+  stays = λ i h. omega (arith, b .finishes i (omega (arith, a .few)) (a .stays i h));
+  ended = λ i h k. omega (arith, a .ended i h k);
+}

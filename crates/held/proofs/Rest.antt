@@ -13,10 +13,11 @@ use Rattle.tasks.specs.declared.Task.{Task}
 use Rattle.tasks.specs.Tasks.{meets, stamped, booked}
 use Rattle.tasks.proofs.Laws.{meets-share}
 use Rattle.planners.specs.Openings.{Place, ways}
-use Rattle.planners.specs.Lent.{OnDevice, tasksOf, asked}
+use Rattle.live.specs.Live.{tasksOf, OnDevice, NextFinish}
+use Rattle.planners.specs.Lent.{asked}
 use Rattle.planners.proofs.Openings.{lawful, leaves-finish, open-opening, opening-open}
 use Rattle.words.specs.Words.{column, Least}
-use Rattle.held.specs.Held.{Held, Clear, FirstFree, NextFinish}
+use Rattle.held.specs.Held.{Held, Clear, FirstFree}
 use Rattle.held.proofs.Opens.{clear-opens, opens-clear, next-of}
 
 module _ (W now : ℕ) (ts : List Task) (w e d : ℕ) where
@@ -46,16 +47,16 @@ module _ (W now : ℕ) (ts : List Task) (w e d : ℕ) where
   rest-beyond t c k h i = past-columns t c (omega arith) i ∙ sym (past-columns t 256 k i)
 
 -- At an instant with its columns
-module _ (W now n : ℕ) (s f l r : List ℕ) (o : OnDevice W n s f l r) (w e d : ℕ) (i : 1 ≤ w) {t : ℕ} (p : now ≤ t) (q : t + e ≤ d)
-    (words : List ℕ) (h : Held W t e (tasksOf n s f l r) words) where
+module _ (W now n : ℕ) (live : List ℕ) (o : OnDevice W n live) (w e d : ℕ) (i : 1 ≤ w) {t : ℕ} (p : now ≤ t) (q : t + e ≤ d)
+    (words : List ℕ) (h : Held W t e (tasksOf n live) words) where
   ts : List Task
-  ts = tasksOf n s f l r
+  ts = tasksOf n live
 
   v : Ways ℕ Task
   v = ways W now ts (asked w e d)
 
   abbrev left : ℕ → ℕ → List Place
-  left = rest W now (tasksOf n s f l r) w e d
+  left = rest W now (tasksOf n live) w e d
 
   open-clear : (x : ℕ) → Open v (pair t x) → (1 ≤ x) × Clear words w x
   unfolding v ts
@@ -108,11 +109,11 @@ module _ (W now n : ℕ) (s f l r : List ℕ) (o : OnDevice W n s f l r) (w e d 
   rest-none {y} g = next-tick v 0 (lawful W now ts (asked w e d)) t y (λ x u b. none-clear g x (ltb→lt y x b) u)
 
   -- NONE AT ALL AT THIS TICK: on to the next finish
-  pub rest-jump : FirstFree words 0 w 0 → {x : ℕ} → NextFinish f n t x → left t 0 ≡ left x 0
+  pub rest-jump : FirstFree words 0 w 0 → {x : ℕ} → NextFinish live n t x → left t 0 ≡ left x 0
   unfolding v ts ways booked stamped
   rest-jump g {x} b = next-end v 0 (lawful W now ts (asked w e d)) t x p (b .after) leaves (λ y u. none-clear g y (open-clear y u .0) u)
     where
       leaves : (u : Task) → u ∈ ts → (y : ℕ) → T (meets (booked now (asked w e d) t y) u) → x ≤ lawful W now ts (asked w e d) .leaves u
       leaves u m y a =
           let j = meets-share (booked now (asked w e d) t y) u a .tick in
-          rw (leaves-finish W now ts (asked w e d) u) (next-of W n s f l r o b u m (omega (arith, j .low₁, j .high₂)))
+          rw (leaves-finish W now ts (asked w e d) u) (next-of W n live o b u m (omega (arith, j .low₁, j .high₂)))

@@ -1,32 +1,26 @@
 -- What the leaves of Full promise of the columns of an instant: code-level definitions; no promise of a public call cites them. Assumes nothing.
-use Prim.Native.Nat.{ℕ, _+_, _*_, _≤_, _<_}
+use Prim.Native.Nat.{ℕ, _+_, _≤_, _<_}
 use mathlib.Core.Path.{_≡_}
-use mathlib.Core.Logic.{_⊎_}
 use mathlib.Core.Bool.{Bool, false, _&&_, _||_}
 use mathlib.Core.List.{List}
-use lib.Dec.{leb, ltb}
-use lib.ListN.{getD}
-use Rattle.lists.specs.Lists.{some?}
+use lib.Dec.{ltb}
+use Rattle.lists.specs.Lists.{some?, range}
 use Rattle.tasks.specs.declared.Task.{Task}
 use Rattle.tasks.specs.Tasks.{overlap, covers}
+use Rattle.live.specs.Live.{at, startAt, finishAt}
 use Rattle.words.specs.Words.{bit, column}
 
 -- the task holds column c at one of the e ticks from t on
 unfoldable pub inStay : ℕ → ℕ → ℕ → Task → Bool
 inStay t e c u = overlap t e (u .start) (u .e) && covers c u
 
--- the columns of task i, first columns l and first columns past r, in four words: word k at k * 64 + i
-pub record Masked (n : ℕ) (l r masks : List ℕ) : Type 0 where
-  pub share : (k i j : ℕ) → k < 4 → i < n → j < 64
-      → bit (getD masks (k * 64 + i) 0) j ≡ (leb (getD l i 0) (k * 64 + 1 + j) && ltb (k * 64 + 1 + j) (getD r i 0))
+-- task i starts before `end`, and has digit j of word k
+abbrev pub inWord : List ℕ → List ℕ → ℕ → ℕ → ℕ → ℕ → Bool
+inWord live masks end k j i = ltb (startAt live i) end && bit (at k masks i) j
 
--- word i is all ones where task i is there between t and `end`, and zero where it is not
-pub record InTime (s f : List ℕ) (n t end : ℕ) (there : List ℕ) : Type 0 where
-  pub test : (i j : ℕ) → i < n → j < 64 → bit (getD there i 0) j ≡ (ltb t (getD f i 0) && ltb (getD s i 0) end)
-
--- task i is there, and has digit j of the word whose masks begin at `base`
-abbrev pub inWord : List ℕ → List ℕ → ℕ → ℕ → ℕ → Bool
-inWord there masks base j i = bit (getD there i 0) j && bit (getD masks (base + i) 0) j
+-- r is `word` with the columns of word k of the first n tasks that start before `end`
+pub record HeldWord (live masks : List ℕ) (end k n word r : ℕ) : Type 0 where
+  pub digits : (j : ℕ) → j < 64 → bit r j ≡ (bit word j || some? (inWord live masks end k j) (range 0 n))
 
 -- the set columns are those past the W of the device
 abbrev pub Edge : ℕ → List ℕ → Type 0
@@ -47,18 +41,8 @@ pub record FirstFree (words : List ℕ) (from w r : ℕ) : Type 0 where
   pub clear : 0 < r → Clear words w r
   pub least : (c : ℕ) → from < c → (0 < r → c < r) → Clear words w c → ⊥
 
--- no finish: a number past every one
-abbrev pub none : ℕ
-none = 4294967295
-
--- r comes after t, no finish of the first n lies between, and r is one of them or none
-pub record NextFinish (f : List ℕ) (n t r : ℕ) : Type 0 where
-  pub after : t < r
-  pub least : (i : ℕ) → i < n → t < getD f i 0 → r ≤ getD f i 0
-  pub one : (r ≡ none) ⊎ ((i : ℕ) × (i < n) × (getD f i 0 ≡ r))
-
 -- until r, r not included, a stay of e ticks meets the tasks that it meets from t on: none of the first n finishes, none comes into it
-pub record Unchanged (s f : List ℕ) (n t e r : ℕ) : Type 0 where
+pub record Unchanged (live : List ℕ) (n t e r : ℕ) : Type 0 where
   pub after : t < r
-  pub finishes : (i : ℕ) → i < n → t < getD f i 0 → r ≤ getD f i 0
-  pub starts : (i : ℕ) → i < n → t + e ≤ getD s i 0 → r + e ≤ getD s i 0 + 1
+  pub finishes : (i : ℕ) → i < n → t < finishAt live i → r ≤ finishAt live i
+  pub starts : (i : ℕ) → i < n → t < finishAt live i → t + e ≤ startAt live i → r + e ≤ startAt live i + 1

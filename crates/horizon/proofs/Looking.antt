@@ -13,7 +13,7 @@ use lib.ListN.{getD}
 use Rattle.columns.specs.Columns.{Run}
 use Rattle.columns.proofs.Runs.{Lies, Longest}
 use Rattle.releases.specs.Steps.{edge, Rises, Pressed}
-use Rattle.horizon.specs.Look.{nil, tried, keyOf, releasedBy, Fits, KeyIs, NextIs, Looked}
+use Rattle.horizon.specs.Look.{nil, tried, keyOf, releasedBy, FitsAt, KeyIs, NextIs, Looked}
 
 -- the step that the pass stands at, and the numbers that fit
 pub record Placed (past : List ℕ) (n from to i : ℕ) : Type 0 where
@@ -54,7 +54,7 @@ module _ (rel : ℕ → ℕ) (W w t : ℕ) where
     pub high : to ≤ suc W
     pub unheld : (c : ℕ) → from ≤ c → c < to → rel c ≤ t
     pub before : (c : ℕ) → suc c ≡ from → 1 ≤ c → t < rel c
-    pub least : (r : Run) → Fits rel W w t r → r .left < from → key ≤ keyOf r
+    pub least : (r : Run) → FitsAt rel W w t r → r .left < from → key ≤ keyOf r
     pub key-is : (key ≡ nil) ⊎ KeyIs rel W w t key
     pub soonest : (c : ℕ) → 1 ≤ c → c < to → t < rel c → next ≤ rel c
     pub next-is : (next ≡ nil) ⊎ NextIs rel W t next
@@ -111,7 +111,7 @@ module _ (rel : ℕ → ℕ) (W w t : ℕ) where
         sizes e (no z) (no y) = omega arith
 
     -- THE RUN IS TRIED: the key is the least of the runs that begin before `to`
-    pub tried-least : {key′ : ℕ} → key′ ≡ tried w from to key → (r : Run) → Fits rel W w t r → r .left < to → key′ ≤ keyOf r
+    pub tried-least : {key′ : ℕ} → key′ ≡ tried w from to key → (r : Run) → FitsAt rel W w t r → r .left < to → key′ ≤ keyOf r
     tried-least {key′} e r f h = step (leb w (to - from)) refl e (decLt (r .left) from)
       where
         step : (b : Bool) → leb w (to - from) ≡ b → key′ ≡ cond b (min ((to - from) * 512 + from) key) key → Dec (r .left < from) → key′ ≤ keyOf r
@@ -162,7 +162,7 @@ module _ (rel : ℕ → ℕ) (W w t : ℕ) where
         stop : to ≤ W → t < rel to
         stop a = later to (omega arith) rise
 
-        least : (r : Run) → Fits rel W w t r → r .left < end → Dec (r .left < to) → key′ ≤ keyOf r
+        least : (r : Run) → FitsAt rel W w t r → r .left < end → Dec (r .left < to) → key′ ≤ keyOf r
         least r f h (yes a) = tried-least p stop e r f a
         least r f h (no a) =
             let o = f .longest .lies in

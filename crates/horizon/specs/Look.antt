@@ -25,14 +25,14 @@ abbrev pub releasedBy : (ℕ → ℕ) → ℕ → ℕ → Bool
 releasedBy rel t c = leb (rel c) t
 
 -- a longest run of released columns that is wide enough
-pub record Fits (rel : ℕ → ℕ) (W w t : ℕ) (r : Run) : Type 0 where
+pub record FitsAt (rel : ℕ → ℕ) (W w t : ℕ) (r : Run) : Type 0 where
   pub longest : Longest (releasedBy rel t) 1 W r
   pub wide : w ≤ r .size
 
 -- the key of such a run
 pub record KeyIs (rel : ℕ → ℕ) (W w t key : ℕ) : Type 0 where
   pub run : Run
-  pub fits : Fits rel W w t run
+  pub fits : FitsAt rel W w t run
   pub same : key ≡ keyOf run
 
 -- the release of a column, after t
@@ -45,7 +45,7 @@ pub record NextIs (rel : ℕ → ℕ) (W t next : ℕ) : Type 0 where
 
 -- what one pass at t finds: the least key, and the next release
 pub record Looked (rel : ℕ → ℕ) (W w t : ℕ) (o : Seen) : Type 0 where
-  pub least : (r : Run) → Fits rel W w t r → o .key ≤ keyOf r
+  pub least : (r : Run) → FitsAt rel W w t r → o .key ≤ keyOf r
   pub key : (o .key ≡ nil) ⊎ KeyIs rel W w t (o .key)
   pub soonest : (c : ℕ) → 1 ≤ c → c ≤ W → t < rel c → o .next ≤ rel c
   pub next : (o .next ≡ nil) ⊎ NextIs rel W t (o .next)

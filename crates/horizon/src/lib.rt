@@ -1,11 +1,14 @@
 // Horizon: the first visited time with a run of released columns that is wide enough.
 ghost use mathlib.Core.Path.{_≡_};
-ghost use Prim.Native.Nat.{ℕ, _+_, _≤_, min};
+ghost use Prim.Native.Nat.{ℕ, _≤_, min};
 ghost use Rattle.planners.specs.Planners.{horizon};
-ghost use Rattle.planners.specs.Lent.{OnDevice, tasksOf, asked, foundOf};
+ghost use Rattle.live.specs.Live.{OnDevice, Falling, tasksOf};
+ghost use Rattle.planners.specs.Lent.{Fits, wanted, foundOf};
 ghost use Rattle.releases.specs.Steps.{Rises, Pressed};
 ghost use Rattle.horizon.specs.Look.{tried, Looked};
+use live::Live;
 use planners::Found;
+use planners::Window;
 
 // What one pass over the columns at a time sees: the least key of a run that is wide enough, and the next release.
 // 0xffff_ffff is none: a key and a time are less.
@@ -59,32 +62,19 @@ fn look<'a>(past: &'a [u32; 256], at: &'a [u32; 256], n: usize, w: u32, t: u32) 
     }
 }
 
-// Horizon over the live tasks that are lent. It reads no start: that is here so that the contract can name the tasks, and
-// so that every planner is called the same way.
-pub fn horizon<'a>(
-    start: &'a [u32; 64],
-    finish: &'a [u32; 64],
-    left: &'a [u32; 64],
-    past: &'a [u32; 64],
-    count: usize,
-    width: u32,
-    clock: u32,
-    w: u32,
-    e: u32,
-    d: u32,
-) -> Found
-    requires { ⌜ OnDevice width count (now start) (now finish) (now left) (now past) ⌝ }
-    requires { ⌜ (1 ≤ w) × (w ≤ width) × (1 ≤ e) × (clock + e ≤ d) × (d ≤ 2000000000) ⌝ }
-    ensures { λ r. ⌜ r ≡ foundOf (horizon width clock (tasksOf count (now (start .entry)) (now (finish .entry)) (now (left .entry)) (now (past .entry))) (asked w e d)) ⌝ }
+// Horizon over the live tasks that are lent.
+pub fn horizon(live: &Live, count: usize, q: Window) -> Found
+    requires { ⌜ OnDevice (q .width) count (now live) × Falling count (now live) × Fits q ⌝ }
+    ensures { λ r. ⌜ r ≡ foundOf (horizon (q .width) (q .clock) (tasksOf count (now (live .entry))) (wanted q)) ⌝ }
 {
-    let row = releases::releases(start, finish, left, past, count, width, clock);
+    let row = releases::releases(live, count, q.width, q.clock);
     let mut ends = [0u32; 256];
     let mut at = [0u32; 256];
-    let n = releases::steps(&row, width, &mut ends, &mut at);
-    let last = d - e;
-    let mut t = clock;
+    let n = releases::steps(&row, q.width, &mut ends, &mut at);
+    let last = q.d - q.e;
+    let mut t = q.clock;
     'walk: loop {
-        let o = look(&ends, &at, n, w, t);
+        let o = look(&ends, &at, n, q.w, t);
         if o.key < 0xffff_ffff {
             break 'walk Found::At {
                 column: o.key % 512,

@@ -3,15 +3,16 @@ use Prim.Native.Nat.{ℕ, zero, suc, _+_, _-_, _≤_, _<_}
 use mathlib.Core.Path.{_≡_, refl, sym, ap, ap₂, _∙_, subst}
 use mathlib.Core.Logic.{_⊎_, inl, inr}
 use mathlib.Core.Bool.{Bool, true, false, not, cond, _&&_, _||_, or-assoc, or-false}
+use mathlib.Core.Option.{some}
 use mathlib.Core.List.{List, [], _∷_, _++_, map, append-nil, append-assoc, map-append, List·Memᴰ·head as here, List·Memᴰ·tail as there}
 use native.Mathlib.Omega.{arith}
 use native.Mathlib.Numerals.{add-one}
 use native.Mathlib.Decide.{ℕ-discrete as decEq}
 use lib.Dec.{T, ltb, leb·suc-suc, T-not}
 use borrow.Author.Tests.{lt-ltb}
-use lib.ListN.{length, take, drop, set, getD, List·getD-map, length-map, length-set, drop-of-length-le}
-use lib.Seq.{take-suc, take-all, length-take-le, drop-cons, take-suc-set, take-set-le, getD-take, getD-set-same, getD-set-other, set-at, getD-at}
-use Rattle.lists.specs.Lists.{_∈_, keep, some?, all?, pairwise?, indexOf, putFirst, range}
+use lib.ListN.{length, take, drop, set, getD, length-map, length-append, length-set, drop-of-length-le}
+use lib.Seq.{take-suc, take-all, length-take-le, drop-cons, getD-set-same, getD-set-other, set-at, getD-at}
+use Rattle.lists.specs.Lists.{_∈_, keep, some?, all?, head?, indexOf, putFirst, range}
 use Rattle.lists.proofs.Bools.{bool}
 use Rattle.lists.proofs.Members.{keep-yes, keep-no}
 
@@ -44,28 +45,10 @@ module _ {A : Type 0} where
   all-more p l i d h =
       rw (add-one, take-suc l i d h) (all-append p (take i l) (getD l i d ∷ []) ∙ ap (λ b. all? p (take i l) && b) (and-true (p (getD l i d))))
 
-  pub keep-more : (p : A → Bool) (l : List A) (i : ℕ) (d : A) → i < length l → T (p (getD l i d)) → keep p (take (i + 1) l) ≡ keep p (take i l) ++ (getD l i d ∷ [])
-  keep-more p l i d h t =
-      rw (add-one, take-suc l i d h) (keep-append p (take i l) (getD l i d ∷ []) ∙ ap (λ x. keep p (take i l) ++ x) (unfold keep in keep-yes p (getD l i d) [] t))
-
-  pub keep-same : (p : A → Bool) (l : List A) (i : ℕ) (d : A) → i < length l → T (not (p (getD l i d))) → keep p (take (i + 1) l) ≡ keep p (take i l)
-  keep-same p l i d h t =
-      let e : keep p (getD l i d ∷ []) ≡ [] = unfold keep in keep-no p (getD l i d) [] t in
-      rw (add-one, take-suc l i d h) (keep-append p (take i l) (getD l i d ∷ []) ∙ ap (λ x. keep p (take i l) ++ x) e ∙ append-nil (keep p (take i l)))
-
   -- the first of what is left
   pub index-left : (p : A → Bool) (l : List A) (i : ℕ) (d : A) → i < length l → indexOf p (drop i l) ≡ cond (p (getD l i d)) 0 (indexOf p (drop (i + 1) l) + 1)
   unfolding indexOf
   index-left p l i d h = rw (add-one i, drop-cons l i d h)
-
-  pub index-most : (p : A → Bool) (l : List A) → indexOf p l ≤ length l
-  unfolding indexOf
-  index-most p [] = omega arith
-  index-most p (x ∷ xs) = step (index-most p xs) (p x)
-    where
-      step : indexOf p xs ≤ length xs → (b : Bool) → cond b 0 (indexOf p xs + 1) ≤ suc (length xs)
-      step h true = omega arith
-      step h false = omega arith
 
   -- a walk up to the first that passes: what is left gives the place
   pub index-on : (p : A → Bool) (l : List A) (i : ℕ) (d : A) → i < length l → p (getD l i d) ≡ false → indexOf p l ≡ i + indexOf p (drop i l) → indexOf p l ≡ i + 1 + indexOf p (drop (i + 1) l)
@@ -82,13 +65,6 @@ module _ {A : Type 0} where
   index-none p l i h e =
       let x : indexOf p (drop i l) ≡ 0 = ap (indexOf p) (drop-of-length-le l h) ∙ (unfold indexOf in refl) in
       omega arith
-
-  -- an array whose first n elements are f of a list: one more stored behind them, or anything
-  pub store-more : {B : Type 0} (f : A → B) (a : List B) (n : ℕ) (xs : List A) (x : A) → take n a ≡ map f xs → n < length a → take (n + 1) (set a n (f x)) ≡ map f (xs ++ (x ∷ []))
-  store-more f a n xs x e h = rw (add-one) (take-suc-set a n (f x) h ∙ ap (λ l. l ++ (f x ∷ [])) e ∙ sym (map-append f xs (x ∷ [])))
-
-  pub store-none : {B : Type 0} (f : A → B) (a : List B) (n : ℕ) (xs : List A) (b : B) → take n a ≡ map f xs → take n (set a n b) ≡ map f xs
-  store-none f a n xs b e = take-set-le n a n b (omega arith) ∙ e
 
 -- what stands at a place after a store
 pub stored : {A : Type 0} (Q : A → Type 0) (l : List A) (i : ℕ) (v : A) (k : ℕ) (d : A) → i < length l → (k ≡ i → Q v) → ((k ≡ i → ⊥) → Q (getD l k d)) → Q (getD (set l i v) k d)
@@ -118,33 +94,6 @@ pub range-first : (a n : ℕ) → a < n → range a (n - a) ≡ a ∷ range (a +
 range-first a n h =
     let e : n - a ≡ suc (n - (a + 1)) = omega arith in
     rw (e, add-one a) (unfold range in refl)
-
--- an element of an array whose first n elements are f of a list
-pub holds-at : {A B : Type 0} (f : A → B) (a : List B) (n : ℕ) (xs : List A) (d : A) → take n a ≡ map f xs → n ≡ length xs → (i : ℕ) → i < n → getD a i (f d) ≡ f (getD xs i d)
-holds-at f a n xs d e z i h = sym (getD-take n a i (f d) h) ∙ ap (λ l. getD l i (f d)) e ∙ List·getD-map f xs i d
-
--- a test of every two over the numbers of a list's elements is one over the elements
-pub pairwise-range : {A : Type 0} (q : A → A → Bool) (p : ℕ → ℕ → Bool) (a : ℕ) (xs : List A) (d : A)
-    → ((i j : ℕ) → i < j → j < length xs → p (a + i) (a + j) ≡ q (getD xs i d) (getD xs j d)) → pairwise? p (range a (length xs)) ≡ pairwise? q xs
-unfolding pairwise? range all?
-pairwise-range q p a [] d f = refl
-pairwise-range {A} q p a (x ∷ xs) d f =
-    let first = all-there xs (suc a) (λ j h. step j h) in
-    let rest = pairwise-range q p (suc a) xs d (λ i j l h. inner i j l h) in
-    rw (first, rest)
-  where
-    step : (j : ℕ) → j < length xs → p a (suc a + j) ≡ q x (getD xs j d)
-    step j h = ap₂ p (let e : a ≡ a + 0 = omega arith in e) (let e : suc a + j ≡ a + suc j = omega arith in e) ∙ f 0 (suc j) (omega arith) (omega arith)
-
-    inner : (i j : ℕ) → i < j → j < length xs → p (suc a + i) (suc a + j) ≡ q (getD xs i d) (getD xs j d)
-    inner i j l h = ap₂ p (let e : suc a + i ≡ a + suc i = omega arith in e) (let e : suc a + j ≡ a + suc j = omega arith in e) ∙ f (suc i) (suc j) (omega arith) (omega arith)
-
-    all-there : (ys : List A) (b : ℕ) → ((j : ℕ) → j < length ys → p a (b + j) ≡ q x (getD ys j d)) → all? (p a) (range b (length ys)) ≡ all? (q x) ys
-    all-there [] b g = refl
-    all-there (y ∷ ys) b g =
-        let e : p a b ≡ q x y = ap (p a) (let z : b ≡ b + 0 = omega arith in z) ∙ g 0 (omega arith) in
-        let r = all-there ys (suc b) (λ j h. ap (p a) (let z : suc b + j ≡ b + suc j = omega arith in z) ∙ g (suc j) (omega arith)) in
-        rw (e, r)
 
 -- the first i elements put through f, the others as they were: one more, all of them
 module _ {A : Type 0} (f : A → A) where
@@ -187,6 +136,17 @@ put-index {A} p x (y ∷ ys) = step (p y) (put-index p x ys)
     step true e = refl
     step false e = ap (λ l. y ∷ l) e ∙ sym (ap (λ n. set (y ∷ ys) n x) (add-one (indexOf p ys)))
 
+-- it is the only place before which none passes and at which one does, or the end
+pub index-is : {A : Type 0} (p : A → Bool) (l : List A) (d : A) (i : ℕ) → i ≤ length l → ((j : ℕ) → j < i → p (getD l j d) ≡ false) → (i < length l → p (getD l i d) ≡ true) → i ≡ indexOf p l
+unfolding indexOf
+index-is p [] d i h f g = omega arith
+index-is p (x ∷ xs) d zero h f g = rw (g (omega arith)) refl
+index-is p (x ∷ xs) d (suc i) h f g =
+    rw (f 0 (omega arith)) (add-one' (index-is p xs d i (omega arith) (λ j l. f (suc j) (omega arith)) (λ l. g (omega arith))))
+  where
+    add-one' : i ≡ indexOf p xs → suc i ≡ indexOf p xs + 1
+    add-one' e = omega arith
+
 pub index-passes : {A : Type 0} (p : A → Bool) (l : List A) (d : A) → indexOf p l < length l → T (p (getD l (indexOf p l) d))
 unfolding indexOf
 index-passes p [] d h = absurd (omega arith)
@@ -202,7 +162,8 @@ put-there p x l d h = ap (λ m. getD m (indexOf p l) d) (put-index p x l) ∙ ge
 
 pub put-keeps : {A : Type 0} (p : A → Bool) (x : A) (l : List A) (i : ℕ) (d : A) → i < length l → T (not (p (getD l i d))) → getD (putFirst p x l) i d ≡ getD l i d
 put-keeps p x l i d h t =
-    ap (λ m. getD m i d) (put-index p x l) ∙ getD-set-other l (indexOf p l) i x d (λ e. T-not (p (getD l i d)) t (subst (λ n. T (p (getD l n d))) (sym e) (index-passes p l d (subst (λ n. n < length l) e h))))
+    ap (λ m. getD m i d) (put-index p x l)
+    ∙ getD-set-other l (indexOf p l) i x d (λ e. T-not (p (getD l i d)) t (subst (λ n. T (p (getD l n d))) (sym e) (index-passes p l d (subst (λ n. n < length l) e h))))
 
 pub length-put : {A : Type 0} (p : A → Bool) (x : A) (l : List A) → length (putFirst p x l) ≡ length l
 length-put p x l = ap length (put-index p x l) ∙ length-set l (indexOf p l) x
@@ -228,6 +189,12 @@ unfolding some?
 some-same p q [] f = refl
 some-same p q (x ∷ xs) f = ap₂ _||_ (f x (here refl)) (some-same p q xs (λ a m. f a (there m)))
 
+pub keep-agree : {A : Type 0} (p q : A → Bool) (xs : List A) → ((a : A) → a ∈ xs → p a ≡ q a) → keep p xs ≡ keep q xs
+unfolding keep
+keep-agree p q [] f = refl
+keep-agree p q (x ∷ xs) f = ap₂ (λ b ys. cond b (x ∷ ys) ys) (f x (here refl)) (keep-agree p q xs (λ a m. f a (there m)))
+
+-- a list that is put through g
 pub some-map : {A B : Type 0} (p : B → Bool) (g : A → B) (xs : List A) → some? p (map g xs) ≡ some? (λ x. p (g x)) xs
 unfolding some?
 some-map p g [] = refl
@@ -242,21 +209,55 @@ keep-map p g (x ∷ xs) = step (p (g x)) (keep-map p g xs)
     step true e = ap (λ l. g x ∷ l) e
     step false e = e
 
+pub head-map : {A B : Type 0} (g : A → B) (xs : List A) {a : A} → head? xs ≡ some a → head? (map g xs) ≡ some (g a)
+unfolding head?
+head-map g [] e = cc
+head-map g (x ∷ xs) e = cc
+
 pub map-map : {A B C : Type 0} (f : B → C) (g : A → B) (xs : List A) → map f (map g xs) ≡ map (λ x. f (g x)) xs
 map-map f g [] = refl
 map-map f g (x ∷ xs) = ap (λ l. f (g x) ∷ l) (map-map f g xs)
-
--- a list by its elements' numbers
-pub map-range : {A B : Type 0} (g : ℕ → B) (h : A → B) (a : ℕ) (xs : List A) (d : A) → ((i : ℕ) → i < length xs → g (a + i) ≡ h (getD xs i d)) → map g (range a (length xs)) ≡ map h xs
-unfolding range
-map-range g h a [] d f = refl
-map-range g h a (x ∷ xs) d f =
-    let z : a + 0 ≡ a = omega arith in
-    let first : g a ≡ h x = ap g (sym z) ∙ f 0 (omega arith) in
-    let rest = map-range g h (suc a) xs d (λ i l. let y : suc a + i ≡ a + suc i = omega arith in ap g y ∙ f (suc i) (omega arith)) in
-    ap₂ (λ y ys. y ∷ ys) first rest
 
 pub range-length : (a n : ℕ) → length (range a n) ≡ n
 unfolding range
 range-length a zero = refl
 range-length a (suc n) = ap suc (range-length (suc a) n)
+
+-- how many pass: one number more, no more than there are, and fewer where the test is stricter
+pub count-range-more : (p : ℕ → Bool) (m : ℕ) → length (keep p (range 0 (m + 1))) ≡ length (keep p (range 0 m)) + cond (p m) 1 0
+unfolding keep
+count-range-more p m =
+    let e : 0 + m ≡ m = omega arith in
+    ap (λ l. length (keep p l)) (range-more 0 m)
+    ∙ ap length (keep-append p (range 0 m) ((0 + m) ∷ []))
+    ∙ length-append (keep p (range 0 m)) (keep p ((0 + m) ∷ []))
+    ∙ ap (λ x. length (keep p (range 0 m)) + length (keep p (x ∷ []))) e
+    ∙ ap (λ x. length (keep p (range 0 m)) + x) (one (p m))
+  where
+    one : (b : Bool) → length (cond b (m ∷ []) []) ≡ cond b 1 0
+    one true = refl
+    one false = refl
+
+module _ {A : Type 0} (p q : A → Bool) where
+  pub count-fewer : (xs : List A) → ((a : A) → a ∈ xs → T (p a) → T (q a)) → length (keep p xs) ≤ length (keep q xs)
+  unfolding keep
+  count-fewer [] f = omega arith
+  count-fewer (x ∷ xs) f = step (count-fewer xs (λ a m. f a (there m))) (p x) (q x) (f x (here refl))
+    where
+      step : length (keep p xs) ≤ length (keep q xs) → (b c : Bool) → (T b → T c) → length (cond b (x ∷ keep p xs) (keep p xs)) ≤ length (cond c (x ∷ keep q xs) (keep q xs))
+      step h true true g = omega arith
+      step h true false g = absurd (g tt)
+      step h false true g = omega arith
+      step h false false g = h
+
+  pub count-less : {xs : List A} {a : A} → a ∈ xs → ((a : A) → a ∈ xs → T (p a) → T (q a)) → T (not (p a)) → T (q a) → length (keep p xs) < length (keep q xs)
+  count-less {a} (here {x} {xs} e) f n y =
+      let z = count-fewer xs (λ a m. f a (there m)) in
+      rw (keep-no p x xs (rw (← e) n), keep-yes q x xs (rw (← e) y)) (omega arith)
+  count-less {a} (there {x} {xs} m) f n y = step (count-less m (λ a k. f a (there k)) n y) (bool (p x)) (bool (q x))
+    where
+      step : length (keep p xs) < length (keep q xs) → T (p x) ⊎ T (not (p x)) → T (q x) ⊎ T (not (q x)) → length (keep p (x ∷ xs)) < length (keep q (x ∷ xs))
+      step h (inl b) (inl c) = rw (keep-yes p x xs b, keep-yes q x xs c) (omega arith)
+      step h (inl b) (inr c) = absurd (T-not (q x) c (f x (here refl) b))
+      step h (inr b) (inl c) = rw (keep-no p x xs b, keep-yes q x xs c) (omega arith)
+      step h (inr b) (inr c) = rw (keep-no p x xs b, keep-no q x xs c) h

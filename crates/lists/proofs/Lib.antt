@@ -3,3 +3,5 @@ pub mod Members
 pub mod Order
 pub mod Append
 pub mod Stores
+pub mod Same
+pub mod Crowd

@@ -152,10 +152,24 @@ module _ {A : Type 0} where
   getD-in (x ∷ xs) zero d h = here refl
   getD-in (x ∷ xs) (suc i) d h = there (getD-in xs i d (omega arith))
 
+  -- what stands in a list stands at a place of it
+  pub in-getD : (xs : List A) (d : A) {a : A} → a ∈ xs → (i : ℕ) × (i < length xs) × (a ≡ getD xs i d)
+  in-getD [] d m = absurd (nowhere m)
+  in-getD (x ∷ xs) d {a} m = go (λ n. in-getD xs d n) (cases m)
+    where
+      go : (a ∈ xs → (i : ℕ) × (i < length xs) × (a ≡ getD xs i d)) → (a ≡ x) ⊎ (a ∈ xs) → (i : ℕ) × (i < length (x ∷ xs)) × (a ≡ getD (x ∷ xs) i d)
+      go below (inl e) = (0, omega arith, e)
+      go below (inr n) = let k = below n in (suc (k .0), omega (arith, k .1), k .2)
+
   -- where no element fails, all are kept
   pub keep-all : (p : A → Bool) (xs : List A) → ((a : A) → a ∈ xs → T (p a)) → keep p xs ≡ xs
   keep-all p [] f = unfold keep in refl
   keep-all p (x ∷ xs) f = keep-yes p x xs (f x (here refl)) ∙ ap (λ l. x ∷ l) (keep-all p xs (λ a m. f a (there m)))
+
+  -- none passes: nothing is kept
+  pub keep-none : (p : A → Bool) (xs : List A) → ((a : A) → a ∈ xs → T (not (p a))) → keep p xs ≡ []
+  keep-none p [] f = unfold keep in refl
+  keep-none p (x ∷ xs) f = keep-no p x xs (f x (here refl)) ∙ keep-none p xs (λ a m. f a (there m))
 
   pub length-keep : (p : A → Bool) (xs : List A) → length (keep p xs) ≤ length xs
   length-keep p [] = unfold keep in omega arith
@@ -164,6 +178,16 @@ module _ {A : Type 0} where
       step : length (keep p xs) ≤ length xs → T (p x) ⊎ T (not (p x)) → length (keep p (x ∷ xs)) ≤ suc (length xs)
       step h (inl t) = rw (keep-yes p x xs t) (omega arith)
       step h (inr t) = rw (keep-no p x xs t) (omega arith)
+
+  -- one that does not pass is left out
+  pub keep-fewer : (p : A → Bool) (xs : List A) {a : A} → a ∈ xs → T (not (p a)) → length (keep p xs) < length xs
+  keep-fewer p [] m t = absurd (nowhere m)
+  keep-fewer p (x ∷ xs) {a} m t = go (λ n. keep-fewer p xs n t) (bool (p x)) (cases m)
+    where
+      go : (a ∈ xs → length (keep p xs) < length xs) → T (p x) ⊎ T (not (p x)) → (a ≡ x) ⊎ (a ∈ xs) → length (keep p (x ∷ xs)) < suc (length xs)
+      go below (inl u) (inl e) = absurd (T-not (p x) (subst (λ y. T (not (p y))) e t) u)
+      go below (inl u) (inr n) = rw (keep-yes p x xs u) (let z = below n in omega arith)
+      go below (inr u) c = rw (keep-no p x xs u) (let z = length-keep p xs in omega arith)
 
   -- the head of a list
   pub head-none : (xs : List A) → head? xs ≡ none → xs ≡ []

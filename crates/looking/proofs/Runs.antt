@@ -46,4 +46,5 @@ put-one l buffer at t from c h e =
     ∙ ap (λ k. sets (sets l at (pairWords ps)) k (t ∷ c ∷ [])) (sym size)
     ∙ sets-append l at (pairWords ps) (t ∷ c ∷ [])
     ∙ ap (sets l at) (sym (words-append ps (pair t c ∷ [])))
-    ∙ ap (λ qs. sets l at (pairWords qs)) (sym (ap (λ k. runAt t from k) more ∙ ap (map (pair t)) (range-more from n ∙ ap (λ x. range from n ++ (x ∷ [])) here) ∙ map-append (pair t) (range from n) (c ∷ [])))
+    ∙ ap (λ qs. sets l at (pairWords qs)) (sym (ap (λ k. runAt t from k) more
+    ∙ ap (map (pair t)) (range-more from n ∙ ap (λ x. range from n ++ (x ∷ [])) here) ∙ map-append (pair t) (range from n) (c ∷ [])))

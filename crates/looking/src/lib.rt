@@ -1,10 +1,12 @@
 // Where the list of openings looks next, and a run of openings written.
 ghost use mathlib.Core.Path.{_≡_};
-ghost use Prim.Native.Nat.{_+_, _-_, _*_, _≤_, _<_, max, min};
+ghost use Prim.Native.Nat.{ℕ, _+_, _-_, _*_, _≤_, _<_, max, min};
 ghost use lib.ListN.{length};
 ghost use lib.Seq.{sets};
 ghost use Rattle.planners.specs.Openings.{pairWords};
+ghost use Rattle.live.specs.Live.{Falling, After};
 ghost use Rattle.looking.specs.Looking.{runAt, NextTick};
+use live::Live;
 
 // The openings at t from column `from` up to, not including, `to`: start and column of each, from the word `at` on.
 pub fn put_run(buffer: &mut [u32], at: usize, t: u32, from: u32, to: u32)
@@ -52,13 +54,13 @@ pub fn from_column(clock: u32, s: u32, c: u32) -> u32
     256
 }
 
-// Where to look when nothing more is open at t after a column.
-pub fn next_tick(finish: &[u32; 64], count: usize, t: u32, column: u32) -> u32
-    requires { ⌜ (count ≤ 64) × (t < 4294967295) ⌝ }
-    ensures { λ r. ⌜ NextTick (now (finish .entry)) count t column r ⌝ }
+// Where to look when nothing more is open at t after a column; the first n tasks are those that finish after t.
+pub fn next_tick(live: &Live, n: usize, t: u32, column: u32) -> u32
+    requires { ⌜ (n ≤ 64) × (t < 4294967295) ⌝ }
+    ensures { λ r. ⌜ ((count : ℕ) → Falling count (now (live .entry)) → After (now (live .entry)) count t n → NextTick (now (live .entry)) count t column r) ⌝ }
 {
     if 0 < column {
         return t + 1;
     }
-    held::next_finish(finish, count, t)
+    live::next_finish(live, n)
 }

@@ -11,7 +11,7 @@ use Rattle.tasks.specs.declared.Task.{Task}
 use Rattle.tasks.specs.Tasks.{finish, covers, holds}
 use Rattle.columns.specs.Columns.{columns, runs}
 use Rattle.planners.specs.Planners.{free, release}
-use Rattle.planners.proofs.Bare.{bare}
+use Rattle.live.specs.Live.{bare}
 use Rattle.lookups.specs.Lookups.{strip, horizonList, busyColumns}
 
 module _ (ts : List Task) where

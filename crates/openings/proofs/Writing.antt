@@ -71,7 +71,8 @@ module _ {all : List Place} {l buffer : List ℕ} {n : ℕ} {rest : List Place} 
       size = ap length every
 
   -- NO MORE FITS, and one is left
-  pub write-full : {p : Place} {more : List Place} → rest ≡ p ∷ more → length l / 2 ≤ n → (record { count = n; more = true } ≡ filledOf (length l) all) × (buffer ≡ overFront (pairWords (take (length l / 2) all)) l)
+  pub write-full : {p : Place} {more : List Place} → rest ≡ p ∷ more → length l / 2 ≤ n
+      → (record { count = n; more = true } ≡ filledOf (length l) all) × (buffer ≡ overFront (pairWords (take (length l / 2) all)) l)
   unfolding filledOf
   write-full {p} {more} e h = (rw (first, lt-ltb (length l / 2) (length all) size) (ap (λ k. record { count = k; more = true }) (o .count)), finished first)
     where

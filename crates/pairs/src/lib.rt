@@ -1,14 +1,17 @@
 // Whether the slots make a sound board: what the survey found, and each pair of live tasks.
 ghost use mathlib.Core.Path.{_≡_};
 ghost use mathlib.Core.Bool.{not, cond};
-ghost use mathlib.Core.List.{List};
-ghost use Prim.Native.Nat.{_+_, _-_, _<_, _≤_};
+ghost use Prim.Native.Nat.{ℕ, _+_, _-_, _<_, _≤_};
 ghost use lib.Dec.{eqb};
-ghost use Rattle.lists.specs.Lists.{all?, range};
+ghost use lib.ListN.{length};
+ghost use Rattle.lists.specs.Lists.{all?, pairwise?, range};
 ghost use Rattle.tasks.specs.declared.Task.{Task};
 ghost use Rattle.slots.specs.Slots.{sound};
-ghost use Rattle.slots.specs.Survey.{Surveyed, clashAt};
-use slots::Findings;
+ghost use Rattle.live.specs.Live.{idAt, OnDevice, Falling};
+ghost use Rattle.pairs.specs.Pairs.{Taken, Judged, Tested, Stood};
+use live::Live;
+use live::Masks;
+use survey::Findings;
 use tasks::Task;
 
 // 1 for a clash.
@@ -19,48 +22,30 @@ fn hit(clash: bool) -> u32
     if clash { 1 } else { 0 }
 }
 
-// How many of the tasks after i, up to n, clash with task i. They are counted and the walk is not left early: that is done
+// How many of the tasks after i, up to n, have the id of task i. They are counted and the walk is not left early: that is done
 // several at a time.
-fn clashes<'a>(
-    id: &'a [u32; 64],
-    start: &'a [u32; 64],
-    finish: &'a [u32; 64],
-    left: &'a [u32; 64],
-    past: &'a [u32; 64],
-    i: usize,
-    n: usize,
-) -> u32
+fn same_ids(live: &Live, i: usize, n: usize) -> u32
     requires { ⌜ (i < n) × (n ≤ 64) ⌝ }
-    ensures { λ r. ⌜ eqb r 0 ≡ all? (λ j. not (clashAt (now (id .entry)) (now (start .entry)) (now (finish .entry)) (now (left .entry)) (now (past .entry)) i j)) (range (i + 1) (n - (i + 1))) ⌝ }
+    ensures { λ r. ⌜ eqb r 0 ≡ all? (λ (j : ℕ). not (eqb (idAt (now (live .entry)) i) (idAt (now (live .entry)) j))) (range (i + 1) (n - (i + 1))) ⌝ }
 {
-    let name = id[i];
-    let from = start[i];
-    let to = finish[i];
-    let first = left[i];
-    let end = past[i];
+    let id = live[live::ID + i];
     let mut hits: u32 = 0;
     let mut j = i + 1;
     while j < n {
-        let same = name == id[j];
-        let crossed = (from < finish[j]) & (start[j] < to) & (first < past[j]) & (left[j] < end);
-        hits += hit(same | crossed);
+        hits += hit(id == live[live::ID + j]);
         j += 1;
     }
     hits
 }
 
-// The slots that were surveyed make a sound board: device and clock, each slot, each pair of live tasks.
-pub fn found_sound(columns: u16, rows: u16, now: u32, v: Findings) -> bool
-    ensures { λ r. ⌜ ((ks : List Task) → Surveyed columns rows now ks v → r ≡ sound columns rows now ks) ⌝ }
+// No two of the first n tasks have one id.
+fn ids_differ(live: &Live, n: usize) -> bool
+    requires { ⌜ n ≤ 64 ⌝ }
+    ensures { λ r. ⌜ r ≡ pairwise? (λ i j. not (eqb (idAt (now (live .entry)) i) (idAt (now (live .entry)) j))) (range 0 n) ⌝ }
 {
-    let fits = slots::device_fits(columns, rows);
-    if !(fits & (now <= 2_000_000_000) & v.sound & (v.count <= 64)) {
-        return false;
-    }
-    let n = v.count;
     let mut i: usize = 0;
     while i < n {
-        if 0 < clashes(&v.id, &v.start, &v.finish, &v.left, &v.past, i, n) {
+        if 0 < same_ids(live, i, n) {
             return false;
         }
         i += 1;
@@ -68,14 +53,95 @@ pub fn found_sound(columns: u16, rows: u16, now: u32, v: Findings) -> bool
     true
 }
 
-// Whether the slots make a sound board.
-pub fn is_sound(columns: u16, rows: u16, now: u32, tasks: [Task; 64]) -> bool
-    ensures { λ r. ⌜ r ≡ sound columns rows now tasks ⌝ }
+// The columns from `left` up to, not including, `past` are taken by a task that starts at `start`. Gives how many of them were taken by one
+// that starts before `finish`.
+fn take(row: &mut [u32; 257], left: u32, past: u32, start: u32, finish: u32) -> u32
+    requires { ⌜ (left ≤ past) × (past ≤ 257) × (length (now row) ≡ 257) ⌝ }
+    ensures { λ r. ⌜ Taken left past start finish (now (row .entry)) (now (row .exit)) r ⌝ }
 {
-    found_sound(
-        columns,
-        rows,
-        now,
-        survey::survey(columns, rows, now, tasks),
-    )
+    let mut hits: u32 = 0;
+    let mut c = left;
+    while c < past {
+        let at = c as usize;
+        hits += hit(row[at] < finish);
+        row[at] = start;
+        c += 1;
+    }
+    hits
+}
+
+// No two of the first n tasks share a column at a tick. The last to finish comes first, so each task finishes no later than those before it,
+// and shares a tick with one of them exactly if that one starts before it finishes. So it is enough to know of each column when the
+// earliest of them starts: that is the one that took it last.
+fn none_meets(live: &Live, n: usize) -> bool
+    requires { ⌜ OnDevice 256 n (now live) × Falling n (now live) ⌝ }
+    ensures { λ r. ⌜ Judged n (now (live .entry)) r ⌝ }
+{
+    let mut row = [0xffff_ffffu32; 257];
+    let mut i: usize = 0;
+    while i < n {
+        let left = live[live::LEFT + i];
+        let past = live[live::PAST + i];
+        let start = live[live::START + i];
+        let finish = live[live::FINISH + i];
+        if 0 < take(&mut row, left, past, start, finish) {
+            return false;
+        }
+        i += 1;
+    }
+    true
+}
+
+// The live tasks of a board where it is sound, the last to finish first: the survey of the slots, and whether they make a sound board: device
+// and clock, each slot, each pair of live tasks.
+pub fn test(columns: u16, rows: u16, clock: u32, tasks: [Task; 64], live: &mut Live) -> Findings
+    requires { ⌜ length (now live) ≡ 384 ⌝ }
+    ensures { λ r. ⌜ Tested columns rows clock tasks (now (live .exit)) r ⌝ }
+{
+    let mut raw = [0u32; 384];
+    let v = survey::survey(columns, rows, clock, tasks, &mut raw);
+    let fits = slots::device_fits(columns, rows);
+    if !(fits & (clock <= 2_000_000_000) & v.sound) {
+        return Findings {
+            count: v.count,
+            used: v.used,
+            sound: false,
+        };
+    }
+    sorting::sort(&raw, v.count, live);
+    let differ = ids_differ(live, v.count);
+    let apart = none_meets(live, v.count);
+    Findings {
+        count: v.count,
+        used: v.used,
+        sound: differ & apart,
+    }
+}
+
+// The same with the words of their columns.
+pub fn stand<'a>(
+    columns: u16,
+    rows: u16,
+    clock: u32,
+    tasks: [Task; 64],
+    live: &'a mut Live,
+    masks: &'a mut Masks,
+) -> Findings
+    requires { ⌜ (length (now live) ≡ 384) × (length (now masks) ≡ 256) ⌝ }
+    ensures { λ r. ⌜ Stood columns rows clock tasks (now (live .exit)) (now (masks .exit)) r ⌝ }
+{
+    let v = test(columns, rows, clock, tasks, live);
+    if v.sound {
+        sorting::mark(live, v.count, masks);
+    }
+    v
+}
+
+// Whether the slots make a sound board.
+pub fn is_sound(columns: u16, rows: u16, clock: u32, tasks: [Task; 64]) -> bool
+    ensures { λ r. ⌜ r ≡ sound columns rows clock tasks ⌝ }
+{
+    let mut live = [0u32; 384];
+    let v = test(columns, rows, clock, tasks, &mut live);
+    v.sound
 }

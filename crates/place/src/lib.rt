@@ -1,36 +1,39 @@
 // The four planners by their numbers.
 ghost use mathlib.Core.Path.{_≡_};
-ghost use Prim.Native.Nat.{_+_, _≤_};
+ghost use Prim.Native.Nat.{_≤_};
+ghost use Rattle.live.specs.Live.{LentTo, tasksOf};
 ghost use Rattle.planners.specs.Planners.{planned};
-ghost use Rattle.planners.specs.Lent.{foundOf, tasksOf, OnDevice, asked};
+ghost use Rattle.planners.specs.Lent.{foundOf, Fits, wanted};
+use live::Live;
+use live::Masks;
 use planners::Found;
+use planners::Window;
 
-// The place that the named planner finds among the live tasks. Reference is Stuffing with no time after now.
-pub fn place<'a>(
-    planner: u8,
-    start: &'a [u32; 64],
-    finish: &'a [u32; 64],
-    left: &'a [u32; 64],
-    past: &'a [u32; 64],
-    n: usize,
-    width: u32,
-    clock: u32,
-    w: u32,
-    e: u32,
-    d: u32,
-) -> Found
-    requires { ⌜ OnDevice width n (now start) (now finish) (now left) (now past) ⌝ }
-    requires { ⌜ (planner ≤ 3) × (1 ≤ w) × (w ≤ width) × (1 ≤ e) × (clock + e ≤ d) × (d ≤ 2000000000) ⌝ }
-    ensures { λ r. ⌜ r ≡ foundOf (planned width clock (tasksOf n (now (start .entry)) (now (finish .entry)) (now (left .entry)) (now (past .entry))) (asked w e d) planner) ⌝ }
+// The place that the named planner finds among the live tasks. Reference is the search with no time after now.
+pub fn place<'a>(planner: u8, live: &'a Live, masks: &'a Masks, count: usize, q: Window) -> Found
+    requires { ⌜ (planner ≤ 3) × LentTo planner (q .width) count (now live) (now masks) × Fits q ⌝ }
+    ensures { λ r. ⌜ r ≡ foundOf (planned (q .width) (q .clock) (tasksOf count (now (live .entry))) (wanted q) planner) ⌝ }
 {
     if planner == 0 {
-        return stuffing::stuffing(start, finish, left, past, n, width, clock, w, e, clock + e);
+        return search::search(
+            live,
+            masks,
+            count,
+            Window {
+                width: q.width,
+                clock: q.clock,
+                w: q.w,
+                e: q.e,
+                d: q.clock + q.e,
+            },
+            false,
+        );
     }
     if planner == 1 {
-        return horizon::horizon(start, finish, left, past, n, width, clock, w, e, d);
+        return horizon::horizon(live, count, q);
     }
     if planner == 2 {
-        return stuffing::stuffing(start, finish, left, past, n, width, clock, w, e, d);
+        return stuffing::stuffing(live, count, q);
     }
-    full::full(start, finish, left, past, n, width, clock, w, e, d)
+    search::search(live, masks, count, q, true)
 }

@@ -1,50 +1,24 @@
--- A planner reads of a task only its columns and its ticks: the arrays that it is lent stand for the live tasks. Assumes nothing.
-use Prim.Native.Nat.{ℕ, _+_, _-_, _<_}
+-- A planner reads of a task only its columns and its ticks. Assumes nothing.
+use Prim.Native.Nat.{ℕ, _+_, _-_}
 use mathlib.Core.Path.{_≡_, refl, sym, ap, ap₂, _∙_, fun-ext}
 use mathlib.Core.Bool.{Bool, not, _&&_}
 use mathlib.Core.Option.{Option, none, some}
 use mathlib.Core.List.{List, [], _∷_, map}
 use native.Mathlib.Omega.{arith}
 use lib.Dec.{leb, ltb, leb→le, ltb→lt, not-T}
-use lib.ListN.{length, take, getD}
-use Rattle.lists.specs.Lists.{keep, head?, orElse, firstOf, highest, range, rising}
+use Rattle.lists.specs.Lists.{keep, head?, orElse, firstOf, highest, rising}
 use Rattle.lists.proofs.Bools.{and-l, and-r}
 use Rattle.lists.proofs.Members.{keep-no}
-use Rattle.lists.proofs.Append.{some-map, keep-map, map-map, map-range, holds-at}
+use Rattle.lists.proofs.Append.{some-map, keep-map, map-map}
 use Rattle.ways.specs.Ways.{isOpen, pairsIn, openingsIn, after, openingsAfter}
-use Rattle.tasks.specs.declared.Phase.the-variants.{Ended}
 use Rattle.tasks.specs.declared.Task.{Task}
 use Rattle.tasks.specs.declared.Submission.{Submission}
-use Rattle.tasks.specs.Tasks.{finish, meets, covers, holds, phaseAt, waitingPhase, stamped, booked, freeSlot}
+use Rattle.tasks.specs.Tasks.{finish, meets, covers, holds, phaseAt, waitingPhase, stamped, booked}
 use Rattle.columns.specs.Columns.{columns, runs, bestFit}
 use Rattle.planners.specs.Openings.{Place, ways, openings, full}
 use Rattle.planners.specs.Planners.{free, release, leftEdge, visited, clearOfWaiting, candidates, releasedEdges, reference, horizon, stuffing}
-use Rattle.planners.specs.Lent.{taskAt, tasksOf, asked}
-
--- a task by what a planner reads of it
-abbrev pub bare : Task → Task
-bare u = record { id = 0; e = u .e; d = 0; start = u .start; w = u .w; h = 0; column = u .column; phase = Ended }
-
--- THE ARRAYS STAND FOR THE TASKS
-pub lent-tasks : (n : ℕ) (s f l r : List ℕ) (ts : List Task) → n ≡ length ts → take n s ≡ map (λ k. k .start) ts → take n f ≡ map finish ts → take n l ≡ map (λ k. k .column) ts → take n r ≡ map (λ k. k .column + k .w) ts
-    → tasksOf n s f l r ≡ map bare ts
-unfolding tasksOf
-lent-tasks n s f l r ts z ss ff ll rr =
-    ap (λ m. map (taskAt s f l r) (range 0 m)) z ∙ map-range (taskAt s f l r) bare 0 ts freeSlot each
-  where
-    each : (i : ℕ) → i < length ts → taskAt s f l r (0 + i) ≡ bare (getD ts i freeSlot)
-    each i h =
-        let o : 0 + i ≡ i = omega arith in
-        let k : i < n = omega arith in
-        ap (taskAt s f l r) o ∙ same (getD ts i freeSlot)
-        (holds-at (λ k. k .start) s n ts freeSlot ss z i k) (holds-at finish f n ts freeSlot ff z i k)
-        (holds-at (λ k. k .column) l n ts freeSlot ll z i k) (holds-at (λ k. k .column + k .w) r n ts freeSlot rr z i k)
-      where
-        same : (u : Task) → getD s i 0 ≡ u .start → getD f i 0 ≡ finish u → getD l i 0 ≡ u .column → getD r i 0 ≡ u .column + u .w → taskAt s f l r i ≡ bare u
-        same u a b c d =
-            let x : getD f i 0 - getD s i 0 ≡ u .e = omega arith in
-            let y : getD r i 0 - getD l i 0 ≡ u .w = omega arith in
-            λ j. record { id = 0; e = x j; d = 0; start = a j; w = y j; h = 0; column = c j; phase = Ended }
+use Rattle.live.specs.Live.{bare}
+use Rattle.planners.specs.Lent.{asked}
 
 module _ (W now : ℕ) (ts : List Task) (a : Submission) where
   abbrev us : List Task
@@ -110,7 +84,12 @@ reference-is W now ts w e d = last (head? (candidates W now ts (asked w e (now +
 
     no-later : (xs : List ℕ) → keep later xs ≡ []
     no-later [] = unfold keep in refl
-    no-later (x ∷ xs) = keep-no later x xs (not-T (later x) (λ t. let p = ltb→lt now x (and-l (ltb now x) (leb (x + e) (now + e)) t) in let q = leb→le (x + e) (now + e) (and-r (ltb now x) (leb (x + e) (now + e)) t) in omega arith)) ∙ no-later xs
+    no-later (x ∷ xs) =
+        keep-no later x xs (not-T (later x) (λ t.
+        let p = ltb→lt now x (and-l (ltb now x) (leb (x + e) (now + e)) t) in
+        let q = leb→le (x + e) (now + e) (and-r (ltb now x) (leb (x + e) (now + e)) t) in
+        omega arith))
+        ∙ no-later xs
 
     none-later : keep later (rising (map finish ts)) ≡ []
     none-later = no-later (rising (map finish ts))

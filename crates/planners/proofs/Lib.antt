@@ -4,3 +4,4 @@ pub mod Lent
 pub mod Walk
 pub mod Bare
 pub mod Compare
+pub mod Orderless

@@ -2,19 +2,20 @@
 use Prim.Native.Nat.{ℕ, _+_, _≤_, _<_}
 use mathlib.Core.Path.{_≡_, refl, sym, ap, _∙_, subst}
 use mathlib.Core.Logic.{_⊎_, inl, inr}
-use mathlib.Core.Bool.{Bool, not}
 use mathlib.Core.Option.{Option, none, some}
-use mathlib.Core.List.{List, [], _∷_, map, List·Memᴰ·head as here, List·Memᴰ·tail as there, List·Memᴰ·cases-cons as cases, List·Memᴰ·not-nil as nowhere}
+use mathlib.Core.List.{List, [], map, List·Memᴰ·head as here, List·Memᴰ·tail as there, List·Memᴰ·cases-cons as cases, List·Memᴰ·not-nil as nowhere}
 use native.Mathlib.Omega.{arith}
 use native.Mathlib.Decide.{decLt, ℕ-discrete as decEq}
-use lib.Dec.{T}
-use Rattle.lists.specs.Lists.{_∈_, keep, head?, orElse, firstOf}
-use Rattle.lists.proofs.Members.{keep-yes, keep-no}
+use Rattle.lists.specs.Lists.{_∈_, head?, orElse, firstOf}
+use Rattle.lists.proofs.Members.{map-in, in-map}
 use Rattle.lists.proofs.Order.{Sorted, empty, next, none-first}
 use Rattle.tasks.specs.declared.Task.{Task}
 use Rattle.tasks.specs.declared.Submission.{Submission}
+use Rattle.tasks.specs.Tasks.{finish}
+use Rattle.live.specs.Live.{finishAt, tasksOf, OnDevice, NextFinish, none as never}
 use Rattle.planners.specs.Openings.{Place}
 use Rattle.planners.specs.Planners.{visited}
+use Rattle.planners.proofs.Lent.{task-in, in-tasks, finish-at}
 use Rattle.planners.proofs.Planners.{visited-in, in-visited, now-visited, visited-rising}
 
 -- the answer at the least number that has one is the first along a rising list
@@ -26,20 +27,6 @@ first-is {B} f (next {x} {xs} h s) {t} m {b} e g = step (λ n. first-is f s n e 
     step : (t ∈ xs → firstOf f xs ≡ some b) → (t ≡ x) ⊎ (t ∈ xs) → orElse (f x) (firstOf f xs) ≡ some b
     step below (inl z) = ap (λ o. orElse o (firstOf f xs)) (sym (ap f z) ∙ e)
     step below (inr n) = ap (λ o. orElse o (firstOf f xs)) (g x (here refl) (h t n)) ∙ below n
-
--- the first of a sorted list that passes, put through g
-pub first-kept : {A B : Type 0} (R : A → A → Type 0) (p : B → Bool) (g : A → B) {xs : List A} → Sorted R xs → {q : A} → q ∈ xs → T (p (g q)) → ((x : A) → x ∈ xs → R x q → T (not (p (g x)))) → head? (keep p (map g xs)) ≡ some (g q)
-first-kept R p g empty m t f = absurd (nowhere m)
-first-kept {A} {B} R p g (next {x} {xs} h s) {q} m t f = step (λ n. first-kept R p g s n t (λ y k l. f y (there k) l)) (cases m)
-  where
-    step : (q ∈ xs → head? (keep p (map g xs)) ≡ some (g q)) → (q ≡ x) ⊎ (q ∈ xs) → head? (keep p (g x ∷ map g xs)) ≡ some (g q)
-    step below (inl z) = ap head? (keep-yes p (g x) (map g xs) (subst (λ y. T (p (g y))) z t)) ∙ (unfold head? in ap (λ y. some (g y)) (sym z))
-    step below (inr n) = ap head? (keep-no p (g x) (map g xs) (f x (here refl) (h q n))) ∙ below n
-
--- none passes: nothing is kept
-pub none-kept : {A B : Type 0} (p : B → Bool) (g : A → B) (xs : List A) → ((x : A) → x ∈ xs → T (not (p (g x)))) → keep p (map g xs) ≡ []
-none-kept p g [] f = unfold keep in refl
-none-kept p g (x ∷ xs) f = keep-no p (g x) (map g xs) (f x (here refl)) ∙ none-kept p g xs (λ y m. f y (there m))
 
 module _ (W now : ℕ) (ts : List Task) (a : Submission) (tried : ℕ → List Place) (times : List ℕ) where
   -- t is visited, and no time visited before it has a candidate
@@ -99,3 +86,31 @@ module _ (W now : ℕ) (ts : List Task) (a : Submission) (tried : ℕ → List P
         each : (i : ℕ) → i ∈ visited W now ts a times → i < u → Dec (t < i) → tried i ≡ []
         each i n k (no p) = upto i n (omega arith)
         each i n k (yes p) = absurd (let z = later i n p in omega arith)
+
+-- The times are the finishes of the live tasks
+module _ {W n : ℕ} {live : List ℕ} (o : OnDevice W n live) where
+  time-at : (x : ℕ) → x ∈ map finish (tasksOf n live) → (i : ℕ) × (i < n) × (x ≡ finishAt live i)
+  time-at x m =
+      let k = map-in finish (tasksOf n live) m in
+      let j = task-in live n (k .1) in
+      (j .0, j .1, k .2 ∙ ap finish (j .2) ∙ finish-at o (j .0) (j .1))
+
+  at-time : (i : ℕ) → i < n → finishAt live i ∈ map finish (tasksOf n live)
+  at-time i h = subst (λ x. x ∈ map finish (tasksOf n live)) (finish-at o i h) (in-map finish (in-tasks live n i h))
+
+  module _ {t u : ℕ} (x : NextFinish live n t u) where
+    -- a finish past t is not before the next one
+    pub not-before : (y : ℕ) → y ∈ map finish (tasksOf n live) → (y ≤ t) ⊎ (u ≤ y)
+    not-before y m = let k = time-at y m in pick (k .0) (k .1) (k .2) (decLt t y)
+      where
+        pick : (i : ℕ) → i < n → y ≡ finishAt live i → Dec (t < y) → (y ≤ t) ⊎ (u ≤ y)
+        pick i h z (yes p) = inr (omega (arith, x .least i h (omega arith)))
+        pick i h z (no p) = inl (omega arith)
+
+    -- the next one is a time, where there is one
+    pub next-time : u < never → u ∈ map finish (tasksOf n live)
+    next-time h = go (x .one)
+      where
+        go : (u ≡ never) ⊎ ((i : ℕ) × (i < n) × (finishAt live i ≡ u)) → u ∈ map finish (tasksOf n live)
+        go (inl z) = absurd (omega arith)
+        go (inr z) = subst (λ y. y ∈ map finish (tasksOf n live)) (z .2) (at-time (z .0) (z .1))

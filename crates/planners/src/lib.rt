@@ -6,3 +6,12 @@ pub enum Found {
     Nothing,
     At { column: u32, start: u32 },
 }
+
+// What is asked of a device of `width` columns at `clock`: w columns for e ticks, done by d.
+pub struct Window {
+    pub width: u32,
+    pub clock: u32,
+    pub w: u32,
+    pub e: u32,
+    pub d: u32,
+}

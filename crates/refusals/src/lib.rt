@@ -8,7 +8,8 @@ ghost use Rattle.tasks.specs.Numbers.{sizeFits, timeFits};
 ghost use Rattle.refusals.specs.Refusals.{_when_, refusal};
 use tasks::Submission;
 
-// The refusals of a submission after 1: 3 to 9, the lowest number first, 0 where none holds. `known`: the id is live already.
+// The refusals of a submission after 1: 3 to 9, the lowest number first, 0 where none holds. `known`: the id is live already; `free`: the lowest free slot, 64
+// where all are taken.
 pub fn refuse(
     planner: u8,
     columns: u16,
@@ -16,9 +17,9 @@ pub fn refuse(
     clock: u32,
     a: Submission,
     known: bool,
-    count: usize,
+    free: usize,
 ) -> u8
-    ensures { λ r. ⌜ r ≡ refusal ((3 when ltb 3 planner) ∷ (4 when eqb (a .id) 0) ∷ (5 when not (sizeFits columns rows (a .w) (a .h))) ∷ (6 when not (timeFits (a .e) (a .d))) ∷ (7 when known) ∷ (8 when ltb (a .d) (clock + a .e)) ∷ (9 when leb 64 count) ∷ []) ⌝ }
+    ensures { λ r. ⌜ r ≡ refusal ((3 when ltb 3 planner) ∷ (4 when eqb (a .id) 0) ∷ (5 when not (sizeFits columns rows (a .w) (a .h))) ∷ (6 when not (timeFits (a .e) (a .d))) ∷ (7 when known) ∷ (8 when ltb (a .d) (clock + a .e)) ∷ (9 when leb 64 free) ∷ []) ⌝ }
 {
     if 3 < planner {
         return 3;
@@ -38,7 +39,7 @@ pub fn refuse(
     if (a.d as u64) < clock as u64 + a.e as u64 {
         return 8;
     }
-    if 64 <= count {
+    if 64 <= free {
         return 9;
     }
     0

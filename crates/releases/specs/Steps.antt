@@ -1,5 +1,5 @@
 -- The row of release times and its steps: code-level definitions; no promise of a public call cites them. Assumes nothing.
-use Prim.Native.Nat.{ℕ, zero, suc, _-_, _≤_, _<_, max}
+use Prim.Native.Nat.{ℕ, zero, suc, _-_, _≤_, _<_}
 use mathlib.Core.Path.{_≡_}
 use mathlib.Core.Bool.{cond, _&&_}
 use mathlib.Core.List.{List}
@@ -8,7 +8,7 @@ use lib.ListN.{getD}
 
 -- what a row has for column suc k once the columns from l up to, not including, r are raised to f
 abbrev pub raisedTo : ℕ → ℕ → ℕ → ℕ → ℕ → ℕ
-raisedTo f l r k x = cond (leb l (suc k) && ltb (suc k) r) (max f x) x
+raisedTo f l r k x = cond (leb l (suc k) && ltb (suc k) r) f x
 
 -- the release of column c in a row, where column 1 stands first
 abbrev pub inRow : List ℕ → ℕ → ℕ

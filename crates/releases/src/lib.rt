@@ -1,20 +1,14 @@
 // A column's release, for each column in a row, and the row pressed into steps of equal release: what Horizon and the horizon
 // list stand on.
 ghost use mathlib.Core.Path.{_≡_};
-ghost use Prim.Native.Nat.{ℕ, suc, _<_, _≤_, max};
+ghost use Prim.Native.Nat.{ℕ, suc, _<_, _≤_};
 ghost use lib.ListN.{length, getD};
 ghost use Rattle.planners.specs.Planners.{release};
-ghost use Rattle.planners.specs.Lent.{OnDevice, tasksOf};
+ghost use Rattle.live.specs.Live.{OnDevice, Falling, tasksOf};
 ghost use Rattle.releases.specs.Steps.{raisedTo, inRow, Pressed};
+use live::Live;
 
-// The later of two instants.
-fn later(x: u32, y: u32) -> u32
-    ensures { λ r. ⌜ r ≡ max x y ⌝ }
-{
-    if x < y { y } else { x }
-}
-
-// The columns from left up to past are not released before finish.
+// The columns from left up to past are released at finish, which is no earlier than what they had.
 fn raise(row: &mut [u32; 256], finish: u32, left: u32, past: u32)
     requires { ⌜ (length (now row) ≡ 256) × (1 ≤ left) × (left ≤ past) × (past ≤ 257) ⌝ }
     ensures { λ _. ⌜ length (now (row .exit)) ≡ 256 ⌝ }
@@ -23,29 +17,26 @@ fn raise(row: &mut [u32; 256], finish: u32, left: u32, past: u32)
     let mut k = left as usize - 1;
     let end = past as usize - 1;
     while k < end {
-        row[k] = later(finish, row[k]);
+        row[k] = finish;
         k += 1;
     }
 }
 
-// The row of release times, column 1 first: now, raised to the finishes over each live task's columns.
-pub fn releases<'a>(
-    start: &'a [u32; 64],
-    finish: &'a [u32; 64],
-    left: &'a [u32; 64],
-    past: &'a [u32; 64],
-    count: usize,
-    width: u32,
-    clock: u32,
-) -> [u32; 256]
-    requires { ⌜ OnDevice width count (now start) (now finish) (now left) (now past) ⌝ }
-    ensures { λ r. ⌜ ((k : ℕ) → k < 256 → getD r k 0 ≡ release clock (tasksOf count (now (start .entry)) (now (finish .entry)) (now (left .entry)) (now (past .entry))) (suc k)) ⌝ }
+// The row of release times, column 1 first: now, raised to the finishes over each live task's columns, the first to finish first.
+pub fn releases(live: &Live, count: usize, width: u32, clock: u32) -> [u32; 256]
+    requires { ⌜ OnDevice width count (now live) × Falling count (now live) ⌝ }
+    ensures { λ r. ⌜ ((k : ℕ) → k < 256 → getD r k 0 ≡ release clock (tasksOf count (now (live .entry))) (suc k)) ⌝ }
 {
     let mut row = [clock; 256];
-    let mut i: usize = 0;
-    while i < count {
-        raise(&mut row, finish[i], left[i], past[i]);
-        i += 1;
+    let mut i = live::after(live, count, clock);
+    while 0 < i {
+        i -= 1;
+        raise(
+            &mut row,
+            live[live::FINISH + i],
+            live[live::LEFT + i],
+            live[live::PAST + i],
+        );
     }
     row
 }

@@ -7,17 +7,17 @@ use mathlib.Core.List.{List, [], _∷_, _++_, append-nil, append-assoc}
 use native.Mathlib.Nat.{zero-add}
 use native.Mathlib.Omega.{arith}
 use lib.Dec.{T}
-use borrow.Author.Tests.{lt-ltb, le-ltb, ne-eqb}
 use lib.ListN.{length, drop, set, replicate, length-append, length-drop}
 use Rattle.tasks.specs.Tasks.{freeSlot}
 use lib.Seq.{sets, sets-eq, length-sets, drop-drop}
-use Rattle.lists.specs.Lists.{all?, overFront}
+use Rattle.lists.specs.Lists.{overFront}
 use Rattle.lists.proofs.Stores.{sets-append}
 use Rattle.tasks.specs.declared.Task.{Task}
-use Rattle.slots.specs.Slots.{slotSound, sound, allAgedTo}
-use Rattle.slots.proofs.Soundness.{each-sound, sound-out}
+use Rattle.slots.specs.Slots.{sound, allAgedTo}
+use Rattle.slots.proofs.Soundness.{sound-out}
 use Rattle.slots.proofs.Ageing.{aged-now}
-use Rattle.apart.specs.Mirrors.{Mirrors}
+use Rattle.survey.specs.declared.Findings.{Findings}
+use Rattle.pairs.specs.Pairs.{Stood}
 use Rattle.board.specs.declared.Board.{Board}
 use Rattle.board.specs.Untested.{boardOf}
 use Rattle.events.specs.declared.Event.{Event}
@@ -26,10 +26,12 @@ use Rattle.events.specs.declared.Reading.the-variants.{End, Got, CutShort, Unkn
 use Rattle.events.specs.Records.{kindOf, readFrom}
 use Rattle.events.proofs.Calls.{taken-there}
 use Rattle.steps.specs.declared.Device.{Device}
+use Rattle.steps.specs.declared.Change.{Change}
+use Rattle.steps.specs.declared.Change.the-variants.{Nothing, Booked, Freed, Cleared}
 use Rattle.steps.specs.declared.Done.{Done}
 use Rattle.session.specs.declared.Whole.{Whole}
 use Rattle.session.specs.Recording.{Line, lineOf, Outcome, outcome, Run, still, ranFrom, lineWords, roomFor, ran, ranBuffer}
-use Rattle.steps.specs.Standing.{Kept, Follows, asBooked, changed}
+use Rattle.steps.specs.Standing.{Keeps, Follows, asBooked, changed}
 use Rattle.session.specs.Standing.{Took}
 
 -- a whole record, and none
@@ -64,19 +66,26 @@ words-length [] = refl
 words-length (x ∷ xs) = let h = words-length xs in omega arith
 
 -- an event's change to the records, as the code makes it
-pub changed-put : (e : Done) (tasks : List Task) → e .slot < 64 → set tasks (e .slot) (e .task) ≡ changed e tasks
-changed-put e tasks h = rw (lt-ltb (e .slot) 64 h)
+pub changed-nothing : {x : Change} (tasks : List Task) → x ≡ Nothing → tasks ≡ changed x tasks
+unfolding changed
+changed-nothing tasks e = rw e
 
-pub changed-all : (e : Done) (tasks : List Task) → e .slot ≡ 65 → (x : Task) → x ≡ freeSlot → replicate 64 x ≡ changed e tasks
-changed-all e tasks h x q = rw (h) (ap (replicate 64) q)
+pub changed-booked : {x : Change} {slot : ℕ} {k : Task} (tasks : List Task) → x ≡ Booked slot k → set tasks slot k ≡ changed x tasks
+unfolding changed
+changed-booked tasks e = rw e
 
-pub changed-none : (e : Done) (tasks : List Task) → 64 ≤ e .slot → (e .slot ≡ 65 → ⊥) → tasks ≡ changed e tasks
-changed-none e tasks h q = rw (le-ltb (e .slot) 64 h, ne-eqb (e .slot) 65 q)
+pub changed-freed : {x : Change} {slot : ℕ} {k : Task} (tasks : List Task) → x ≡ Freed slot → k ≡ freeSlot → set tasks slot k ≡ changed x tasks
+unfolding changed
+changed-freed {slot} tasks e q = rw e (ap (set tasks slot) q)
+
+pub changed-cleared : {x : Change} {k : Task} (tasks : List Task) → x ≡ Cleared → k ≡ freeSlot → replicate 64 k ≡ changed x tasks
+unfolding changed
+changed-cleared tasks e q = rw e (ap (replicate 64) q)
 
 -- after n events
-pub record Running (b : Board) (number most : ℕ) (bytes lent answers : List ℕ) (tasks : List Task) (id s f l r : List ℕ) (d : Device) (turns at n : ℕ) : Type 0 where
+pub record Running (b : Board) (number most : ℕ) (bytes lent answers : List ℕ) (tasks : List Task) (live masks : List ℕ) (d : Device) (turns at n : ℕ) : Type 0 where
   pub slots : List Task
-  pub kept : Kept d slots id s f l r
+  pub keeps : Keeps d slots live masks
   pub size : length tasks ≡ 64
   pub records : slots ≡ asBooked d tasks
   pub done : List Line
@@ -91,26 +100,23 @@ pub record Running (b : Board) (number most : ℕ) (bytes lent answers : List �
   pub goes-on : (turns ≡ most) ⊎ ((turns ≡ n) × (ranFrom (most - n) (boardOf slots (d .clock) (d .columns) (d .rows)) (number + n) (drop at bytes) ≡ still (boardOf slots (d .clock) (d .columns) (d .rows))))
 
 -- AT THE BEGIN: the board that was handed over, tested once
-pub run-begin : (tasks : List Task) (clock columns rows number most : ℕ) (bytes lent : List ℕ) (good : Bool) (id s f l r : List ℕ) → good ≡ sound columns rows clock tasks
-    → (length id ≡ 64) × (length s ≡ 64) × (length f ≡ 64) × (length l ≡ 64) × (length r ≡ 64) × (length tasks ≡ 64)
-    → ((W H now : ℕ) → T (all? (slotSound W H now) tasks) → Mirrors 64 tasks id s f l r)
-    → Running (boardOf tasks clock columns rows) number most bytes lent lent tasks id s f l r (record { clock = clock; columns = columns; rows = rows; used = 64; sound = good }) most 0 0
+pub run-begin : (tasks : List Task) (clock columns rows number most : ℕ) (bytes lent live masks : List ℕ) (v : Findings) → Stood columns rows clock tasks live masks v
+    → Running (boardOf tasks clock columns rows) number most bytes lent lent tasks live masks
+    (record { clock = clock; columns = columns; rows = rows; count = v .count; used = v .used; sound = v .sound }) most 0 0
 unfolding lineWords
-run-begin tasks clock columns rows number most bytes lent good id s f l r g sizes m = record {
+run-begin tasks clock columns rows number most bytes lent live masks v o = record {
   slots = tasks;
-  kept = record {
-    slots = sizes .5;
-    ids = sizes .0;
-    starts = sizes .1;
-    finishes = sizes .2;
-    lefts = sizes .3;
-    pasts = sizes .4;
-    good = sym g;
-    above = record { upto = omega arith; none = λ i h p. absurd (omega arith) };
-    mirrors = λ u. m columns rows clock (each-sound columns rows clock tasks (subst T (sym u ∙ g) tt));
+  keeps = record {
+    slots = o .tested .slots;
+    size = o .tested .size;
+    wide = o .wide;
+    good = sym (o .tested .sound);
+    kept = o .tested .kept;
+    masked = o .masked;
+    used = λ u. o .tested .used;
   };
-  size = sizes .5;
-  records = as-booked good g;
+  size = o .tested .slots;
+  records = as-booked (v .sound) (o .tested .sound);
   done = [];
   lines = ap (λ x. ranFrom x (boardOf tasks clock columns rows) number bytes .lines) first ∙ ap (λ x. ranFrom (most - 0) (boardOf tasks clock columns rows) x bytes .lines) start;
   board = ap (λ x. ranFrom x (boardOf tasks clock columns rows) number bytes .board) first ∙ ap (λ x. ranFrom (most - 0) (boardOf tasks clock columns rows) x bytes .board) start;
@@ -133,15 +139,15 @@ run-begin tasks clock columns rows number most bytes lent good id s f l r g size
     as-booked true e = sym (aged-now columns rows clock tasks (sound-out columns rows clock tasks (subst T e tt)))
     as-booked false e = refl
 
-module _ {b : Board} {number most : ℕ} {bytes lent answers : List ℕ} {tasks : List Task} {id s f l r : List ℕ} {d : Device} {turns at n : ℕ} (o : Running b number most bytes lent answers tasks id s f l r d turns at n) where
+module _ {b : Board} {number most : ℕ} {bytes lent answers : List ℕ} {tasks : List Task} {live masks : List ℕ} {d : Device} {turns at n : ℕ} (o : Running b number most bytes lent answers tasks live masks d turns at n) where
   pub same-room : length answers ≡ length lent
   same-room = ap length (o .words) ∙ length-sets lent 0 (lineWords (o .done))
 
   -- NO WHOLE RECORD IS LEFT
-  pub run-stop : {w : Whole} → Took (drop at bytes) w → w .size ≡ 0 → Running b number most bytes lent answers tasks id s f l r d n at n
+  pub run-stop : {w : Whole} → Took (drop at bytes) w → w .size ≡ 0 → Running b number most bytes lent answers tasks live masks d n at n
   run-stop {w} t e = record {
     slots = o .slots;
-    kept = o .kept;
+    keeps = o .keeps;
     size = o .size;
     records = o .records;
     done = o .done;
@@ -157,11 +163,11 @@ module _ {b : Board} {number most : ℕ} {bytes lent answers : List ℕ} {tasks 
   }
 
   -- AN EVENT MORE
-  module _ (h : n < turns) {w : Whole} (t : Took (drop at bytes) w) (p : 0 < w .size) {e : Done} {id′ s′ f′ l′ r′ : List ℕ}
-      (q : (ks : List Task) → Kept d ks id s f l r → Follows d ks (outcome (boardOf ks (d .clock) (d .columns) (d .rows)) (w .event)) e id′ s′ f′ l′ r′)
+  module _ (h : n < turns) {w : Whole} (t : Took (drop at bytes) w) (p : 0 < w .size) {e : Done} {live′ masks′ : List ℕ}
+      (q : (ks : List Task) → Keeps d ks live masks → Follows d ks (outcome (boardOf ks (d .clock) (d .columns) (d .rows)) (w .event)) e live′ masks′)
       {after : List ℕ} {kind : ℕ} (k : kind ≡ kindOf (w .event))
       (a : after ≡ sets answers (n * 6) ((number + n + 1) ∷ kind ∷ e .number ∷ e .column ∷ e .start ∷ e .finish ∷ []))
-      {next : List Task} (c : next ≡ changed e tasks) (z : length next ≡ 64) where
+      {next : List Task} (c : next ≡ changed (e .change) tasks) (z : length next ≡ 64) where
     abbrev now : Board
     now = boardOf (o .slots) (d .clock) (d .columns) (d .rows)
 
@@ -174,8 +180,8 @@ module _ {b : Board} {number most : ℕ} {bytes lent answers : List ℕ} {tasks 
     abbrev later : Run
     later = ranFrom (most - (n + 1)) (boardOf (out .board .tasks) (e .device .clock) (e .device .columns) (e .device .rows)) (number + (n + 1)) (drop (at + w .size) bytes)
 
-    g : Follows d (o .slots) out e id′ s′ f′ l′ r′
-    g = q (o .slots) (o .kept)
+    g : Follows d (o .slots) out e live′ masks′
+    g = q (o .slots) (o .keeps)
 
     full : turns ≡ most
     full = pick (o .goes-on)
@@ -196,13 +202,13 @@ module _ {b : Board} {number most : ℕ} {bytes lent answers : List ℕ} {tasks 
         ∙ ap (λ x. ranFrom (most - (n + 1)) x (number + (n + 1)) (drop (at + w .size) bytes)) there)
       where
         there : out .board ≡ boardOf (out .board .tasks) (e .device .clock) (e .device .columns) (e .device .rows)
-        there = λ i. record { tasks = out .board .tasks; now = sym (g .clock) i; columns = sym (g .columns) i; rows = sym (g .rows) i }
+        there = λ i. record { tasks = out .board .tasks; now = sym (g .clock) i; columns = sym (g .columns) i; rows = sym (g .height) i }
 
-    pub run-more : Running b number most bytes lent after next id′ s′ f′ l′ r′ (e .device) turns (at + w .size) (n + 1)
+    pub run-more : Running b number most bytes lent after next live′ masks′ (e .device) turns (at + w .size) (n + 1)
     unfolding lineWords lineOf
     run-more = record {
       slots = out .board .tasks;
-      kept = g .kept;
+      keeps = g .keeps;
       size = z;
       records = g .records tasks (o .size) (o .records) ∙ ap (asBooked (e .device)) (sym c);
       done = o .done ++ (line ∷ []);

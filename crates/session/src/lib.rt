@@ -12,6 +12,7 @@ ghost use Rattle.session.specs.Standing.{Took};
 use board::Board;
 use events::Event;
 use events::Reading;
+use steps::Change;
 use steps::Device;
 use tasks::Task;
 
@@ -105,18 +106,23 @@ pub fn run(board: Board, number: u32, bytes: &[u8], answers: &mut [u32]) -> Ran
     ensures { λ r. ⌜ (r .count * 6 ≤ length (now (answers .entry))) × (r .taken ≤ length (now (bytes .entry))) × (number ≤ 1000000000 → number + r .count ≤ 1000000000) ⌝ }
 {
     let mut tasks = board.tasks;
-    let p = apart::apart(tasks);
-    let mut id = p.id;
-    let mut start = p.start;
-    let mut finish = p.finish;
-    let mut left = p.left;
-    let mut past = p.past;
+    let mut live = [0u32; 384];
+    let mut masks = [0u64; 256];
+    let v = pairs::stand(
+        board.columns,
+        board.rows,
+        board.now,
+        tasks,
+        &mut live,
+        &mut masks,
+    );
     let mut d = Device {
         clock: board.now,
         columns: board.columns,
         rows: board.rows,
-        used: 64,
-        sound: board.is_sound(),
+        count: v.count,
+        used: v.used,
+        sound: v.sound,
     };
     let most = room(answers.len(), number);
     let mut turns = most;
@@ -129,15 +135,7 @@ pub fn run(board: Board, number: u32, bytes: &[u8], answers: &mut [u32]) -> Ran
             turns = n;
         } else {
             let event = e.event;
-            let r = steps::answered(
-                &mut id,
-                &mut start,
-                &mut finish,
-                &mut left,
-                &mut past,
-                d,
-                event,
-            );
+            let r = steps::answered(&mut live, &mut masks, d, event);
             put_line(
                 answers,
                 n * 6,
@@ -151,13 +149,19 @@ pub fn run(board: Board, number: u32, bytes: &[u8], answers: &mut [u32]) -> Ran
             d = r.device;
             at += size;
             n += 1;
-            let slot = r.slot;
-            if slot < 64 {
-                let task = r.task;
-                tasks[slot] = task;
-            } else if slot == 65 {
-                let free = tasks::free_slot();
-                tasks = [free; 64];
+            let change = r.change;
+            match change {
+                Change::Nothing => {}
+                Change::Booked { slot, task } => {
+                    tasks[slot] = task;
+                }
+                Change::Freed { slot } => {
+                    tasks[slot] = tasks::free_slot();
+                }
+                Change::Cleared => {
+                    let free = tasks::free_slot();
+                    tasks = [free; 64];
+                }
             }
         }
     }

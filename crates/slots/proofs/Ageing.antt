@@ -2,13 +2,13 @@
 use Prim.Native.Nat.{ℕ, _≤_, _<_}
 use mathlib.Core.Path.{_≡_, refl, sym, ap, _∙_, subst}
 use mathlib.Core.Logic.{_⊎_, inl, inr}
-use mathlib.Core.Bool.{Bool, not}
+use mathlib.Core.Bool.{Bool, true, false, not, true≢false}
 use mathlib.Core.List.{List, [], _∷_, map, List·Memᴰ·head as here, List·Memᴰ·tail as there}
 use native.Mathlib.Omega.{arith}
 use native.Mathlib.Decide.{decLe, decLt}
 use lib.Dec.{T, ltb}
 use borrow.Author.Tests.{le-leb, lt-leb, lt-ltb, le-ltb}
-use lib.ListN.{length-map}
+use lib.ListN.{length, getD, length-map, List·getD-map}
 use Rattle.lists.specs.Lists.{_∈_, keep}
 use Rattle.lists.proofs.Bools.{bool, is-true, is-false}
 use Rattle.lists.proofs.Members.{keep-yes, keep-no, map-in}
@@ -157,3 +157,24 @@ aged-twice i j (k ∷ ks) h = let r = aged-twice i j ks h in rw (each (bool (liv
         last q (no e) =
             let r : j < finish k = omega arith in
             aged-stands j (stamped i k) (stamped-live i k q) (rw same r) ∙ again ∙ sym (aged-stands j k f r)
+
+-- THE SLOTS AT AN INSTANT, one by one
+pub aged-free-slot : (i : ℕ) → agedTo i freeSlot ≡ freeSlot
+aged-free-slot i = aged-free i freeSlot tt
+
+pub aged-at : (i : ℕ) (ks : List Task) (j : ℕ) → getD (allAgedTo i ks) j freeSlot ≡ agedTo i (getD ks j freeSlot)
+unfolding allAgedTo
+aged-at i ks j = ap (getD (map (agedTo i) ks) j) (sym (aged-free-slot i)) ∙ List·getD-map (agedTo i) ks j freeSlot
+
+pub aged-length : (i : ℕ) (ks : List Task) → length (allAgedTo i ks) ≡ length ks
+unfolding allAgedTo
+aged-length i ks = length-map ks (agedTo i)
+
+-- what is live then was live, and has not finished
+pub aged-live : (i : ℕ) (k : Task) → T (live (agedTo i k)) → T (live k) × (i < finish k)
+aged-live i k t = go (live k) refl (decLe (finish k) i)
+  where
+    go : (b : Bool) → live k ≡ b → Dec (finish k ≤ i) → T (live k) × (i < finish k)
+    go false q z = absurd (true≢false (sym (is-true (live (agedTo i k)) t) ∙ ap live (aged-free i k (rw q tt)) ∙ q))
+    go true q (yes z) = absurd (subst (λ k. T (live k)) (aged-ended i k (rw q tt) z) t)
+    go true q (no z) = (rw q tt, omega arith)

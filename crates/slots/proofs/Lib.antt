@@ -1,5 +1,3 @@
 pub mod Soundness
-pub mod Passed
-pub mod Pairs
 pub mod Ageing
 pub mod Booking

@@ -1,6 +1,6 @@
 -- Soundness as a record of plain clauses, decided by the test. Assumes nothing.
 use Prim.Native.Nat.{ℕ, suc, _+_, _≤_, _<_}
-use mathlib.Core.Path.{_≡_, refl}
+use mathlib.Core.Path.{_≡_, refl, sym}
 use mathlib.Core.Bool.{Bool, true, false, not, cond, _&&_, _||_}
 use mathlib.Core.List.{List, [], _∷_}
 use native.Mathlib.Omega.{arith}
@@ -14,7 +14,7 @@ use Rattle.tasks.specs.declared.Phase.{Phase}
 use Rattle.tasks.specs.declared.Phase.the-variants.{Ended, Waiting, Running}
 use Rattle.tasks.specs.declared.Task.{Task}
 use Rattle.tasks.specs.Tasks.{finish, meets, livePhase, runningPhase, live, freeSlot, zeros}
-use Rattle.tasks.proofs.Laws.{Between, within-out, within-in, Share, meets-share, share-meets, zeros-free}
+use Rattle.tasks.proofs.Laws.{Between, within-out, within-in, Share, meets-share, share-meets, share-sym, zeros-free}
 use Rattle.slots.specs.Slots.{liveIn, agree, taskSound, slotSound, together, sound}
 
 -- running exactly if its start is ≤ now, and otherwise waiting
@@ -89,28 +89,31 @@ task-in W H now k s =
     let p = phase-in now k (s .phase) in
     search (and-i, within-in, le→leb, s .id, s .w, s .h, s .e, p) depth 14
 
-together-out : (k l : Task) → T (together k l) → Together k l
+pub together-out : (k l : Task) → T (together k l) → Together k l
 unfolding together
 together-out k l h = record {
   ids = λ e. T-not (eqb (k .id) (l .id)) (and-l (not (eqb (k .id) (l .id))) (not (meets k l)) h) (rw e (eqb-refl (l .id)));
   apart = λ s. T-not (meets k l) (and-r (not (eqb (k .id) (l .id))) (not (meets k l)) h) (share-meets k l s);
 }
 
-together-in : (k l : Task) → Together k l → T (together k l)
+pub together-in : (k l : Task) → Together k l → T (together k l)
 unfolding together
 together-in k l d =
     and-i (not (eqb (k .id) (l .id))) (not (meets k l))
     (not-T (eqb (k .id) (l .id)) (λ m. d .ids (eqb→eq (k .id) (l .id) m)))
     (not-T (meets k l) (λ m. d .apart (meets-share k l m)))
 
-pairs-out : (ks : List Task) → T (pairwise? together ks) → Sorted Together ks
+pub together-sym : (k l : Task) → Together k l → Together l k
+together-sym k l t = record { ids = λ e. t .ids (sym e); apart = λ s. t .apart (share-sym l k s) }
+
+pub pairs-out : (ks : List Task) → T (pairwise? together ks) → Sorted Together ks
 unfolding pairwise?
 pairs-out [] h = empty
 pairs-out (k ∷ ks) h =
     next (λ l m. together-out k l (all-pass (together k) ks (and-l (all? (together k) ks) (pairwise? together ks) h) m))
     (pairs-out ks (and-r (all? (together k) ks) (pairwise? together ks) h))
 
-pairs-in : {ks : List Task} → Sorted Together ks → T (pairwise? together ks)
+pub pairs-in : {ks : List Task} → Sorted Together ks → T (pairwise? together ks)
 unfolding pairwise?
 pairs-in empty = tt
 pairs-in (next {x} {xs} f s) =

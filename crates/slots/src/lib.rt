@@ -1,25 +1,12 @@
 // The 64 slots of a board: whether each by itself is sound, which has an id, and what the clock makes of them.
 ghost use mathlib.Core.Path.{_≡_};
 ghost use mathlib.Core.Bool.{cond};
-ghost use Prim.Native.Nat.{_+_, _<_, _≤_, min};
+ghost use Prim.Native.Nat.{_≤_};
 ghost use Rattle.lists.specs.Lists.{indexOf};
 ghost use Rattle.tasks.specs.declared.Task.{Task};
 ghost use Rattle.tasks.specs.Numbers.{deviceFits};
 ghost use Rattle.slots.specs.Slots.{taskSound, slotSound, agedTo, allAgedTo, named};
 use tasks::Task;
-
-// What one pass over the slots finds: whether each slot by itself is sound, and the live tasks taken apart into arrays of
-// numbers, in slot order. What stands in the arrays from `count` on means nothing.
-pub struct Findings {
-    pub id: [u32; 64],
-    pub start: [u32; 64],
-    pub finish: [u32; 64],
-    pub left: [u32; 64],
-    pub past: [u32; 64],
-    pub count: usize,
-    pub free: usize,
-    pub sound: bool,
-}
 
 // W and H are in range.
 pub fn device_fits(columns: u16, rows: u16) -> bool
@@ -63,16 +50,6 @@ pub fn one_if(live: bool) -> usize
     ensures { λ r. ⌜ r ≤ 1 ⌝ }
 {
     if live { 1 } else { 0 }
-}
-
-// The lowest free slot, where slot i is live or not.
-pub fn lowest(free: usize, i: usize, live: bool) -> usize
-    ensures { λ r. ⌜ r ≡ cond live free (min free i) ⌝ }
-{
-    if live {
-        return free;
-    }
-    if free < i { free } else { i }
 }
 
 // A slot at an instant: a task that has finished leaves it free, another has the phase of the instant.

@@ -1,25 +1,31 @@
 -- What each event does to the board inside a run is what its call does in the book. Assumes nothing.
-use Prim.Native.Nat.{ℕ, zero, suc, _+_, _≤_, _<_, max}
+use Prim.Native.Nat.{ℕ, zero, suc, _+_, _-_, _≤_, _<_}
 use mathlib.Core.Path.{_≡_, refl, sym, ap, _∙_, subst}
-use mathlib.Core.Bool.{Bool, true, false, not, cond}
+use mathlib.Core.Bool.{Bool, true, false, not, cond, _&&_, _||_}
 use mathlib.Core.List.{List, [], _∷_, map}
 use native.Mathlib.Omega.{arith}
-use borrow.Author.Tests.{lt-ltb, le-ltb}
-use lib.Dec.{T, ltb, eqb}
-use lib.ListN.{length, getD, set, replicate, length-set, length-replicate}
-use Rattle.lists.specs.Lists.{all?, indexOf}
-use Rattle.lists.proofs.Bools.{is-true, and-l}
-use Rattle.lists.proofs.Append.{index-passes}
-use Rattle.lists.proofs.Members.{getD-in}
+use borrow.Author.Tests.{lt-ltb, le-ltb, ltb-false, eqb-true}
+use lib.Dec.{T, ltb, eqb, eqb→eq, not-T}
+use lib.ListN.{length, getD, set, replicate, length-set, length-replicate, getD-replicate}
+use Rattle.lists.specs.Lists.{some?, indexOf, range}
+use Rattle.lists.proofs.Bools.{is-true, is-false, and-i, and-l, and-r}
+use Rattle.lists.proofs.Append.{index-test, index-is, index-passes}
+use Rattle.lists.proofs.Members.{getD-in, pass-none, range-in}
+use Rattle.lists.proofs.Order.{sorted-at}
 use Rattle.tasks.specs.declared.Task.{Task}
 use Rattle.tasks.specs.declared.Submission.{Submission}
 use Rattle.tasks.specs.Numbers.{deviceFits}
-use Rattle.tasks.specs.Tasks.{finish, live, runningPhase, phaseAt, stamped, freeSlot, booked}
-use Rattle.slots.specs.Slots.{slotSound, sound, named, agedTo, allAgedTo}
-use Rattle.slots.proofs.Soundness.{InPhase, running, waiting, SoundTask, Sound, sound-out, sound-in, each-sound}
-use Rattle.slots.proofs.Ageing.{aged-stands, stamped-live, aged-sound, aged-now, aged-twice}
-use Rattle.apart.specs.Mirrors.{Above, Ended}
-use Rattle.apart.proofs.Changing.{aged-free-slot, aged-length, mirrors-aged, mirrors-put, mirrors-free, mirrors-none, above-put, above-free}
+use Rattle.tasks.specs.Tasks.{live, runningPhase, phaseAt, stamped, freeSlot, booked}
+use Rattle.words.specs.Words.{bit, Least}
+use Rattle.words.proofs.Digits.{bit-of-zero}
+use Rattle.slots.specs.Slots.{sound, named, known, agedTo, allAgedTo}
+use Rattle.slots.proofs.Soundness.{InPhase, running, waiting, SoundTask, Together, Sound, sound-out, sound-in}
+use Rattle.slots.proofs.Ageing.{aged-free-slot, aged-length, aged-stands, stamped-live, aged-sound, aged-now, aged-twice}
+use Rattle.live.specs.Live.{startAt, idAt, slotAt, Falling, After}
+use Rattle.live.specs.Kept.{Stands, Kept, Closed, Inserted, InUse, lowestFree}
+use Rattle.live.proofs.Standing.{room, inserted-stands, inserted-falling, inserted-masked, removed-stands, removed-falling, removed-masked, after-stands, after-falling, after-masked, no-tasks}
+use Rattle.live.proofs.InUse.{use-in, in-use-more, in-use-less, in-use-after}
+use Rattle.live.proofs.Planned.{start-at, id-at, known-same}
 use Rattle.board.specs.declared.Board.{Board}
 use Rattle.board.specs.declared.Answer.{Answer}
 use Rattle.board.specs.declared.Answer.the-variants.{Rejected, Placed, Refused}
@@ -34,8 +40,19 @@ use Rattle.board.proofs.Submit.{submit-unsound}
 use Rattle.board.proofs.Placed.{BooksAt, placed-books, unplaced-same}
 use Rattle.events.specs.declared.Event.the-variants.{NewBoard, Submit, Clock, Withdraw}
 use Rattle.steps.specs.declared.Device.{Device}
+use Rattle.steps.specs.declared.Change.{Change}
+use Rattle.steps.specs.declared.Change.the-variants.{Nothing, Booked, Freed, Cleared}
+use Rattle.steps.specs.declared.Done.{Done}
 use Rattle.steps.specs.Outcomes.{Outcome, outcome}
-use Rattle.steps.specs.Standing.{Kept, Follows, asBooked}
+use Rattle.steps.specs.Standing.{Keeps, Follows, asBooked, changed}
+
+-- a number without a place
+abbrev pub numbered : ℕ → Device → Change → Done
+numbered n d x = record { number = n; column = 0; start = 0; finish = 0; device = d; change = x }
+
+-- a sound device with other tasks
+abbrev pub withLive : Device → ℕ → ℕ → ℕ → Device
+withLive d clock count used = record { clock = clock; columns = d .columns; rows = d .rows; count = count; used = used; sound = true }
 
 -- a record into a slot, before or after the slots are brought up to the clock
 aged-set : (i : ℕ) (ks : List Task) (n : ℕ) (k : Task) → allAgedTo i (set ks n k) ≡ set (allAgedTo i ks) n (agedTo i k)
@@ -64,16 +81,16 @@ pub created-not : (W H : ℕ) → deviceFits W H ≡ false → created W H ≡ r
 unfolding created refusedCreate orRefused
 created-not W H e = rw (refused-by 2 (not (deviceFits W H)) [] (ap not e))
 
-module _ (d : Device) (ks : List Task) {id s f l r : List ℕ} (k : Kept d ks id s f l r) where
+module _ (d : Device) (ks : List Task) {rows masks : List ℕ} (k : Keeps d ks rows masks) where
   abbrev b : Board
   b = boardOf ks (d .clock) (d .columns) (d .rows)
 
   -- NOTHING BUT A NUMBER
-  pub step-same : (o : Outcome) (n : ℕ) → o ≡ record { answer = bare n; board = boardOf ks (d .clock) (d .columns) (d .rows) }
-      → Follows d ks o (record { number = n; column = 0; start = 0; finish = 0; device = d; slot = 64; task = freeSlot }) id s f l r
+  pub step-same : (o : Outcome) (n : ℕ) → o ≡ record { answer = bare n; board = boardOf ks (d .clock) (d .columns) (d .rows) } → Follows d ks o (numbered n d Nothing) rows masks
+  unfolding changed
   step-same o n e =
-      subst (λ x. Follows d ks x (record { number = n; column = 0; start = 0; finish = 0; device = d; slot = 64; task = freeSlot }) id s f l r) (sym e)
-      (record { number = refl; column = refl; start = refl; finish = refl; clock = refl; columns = refl; rows = refl; kept = k; records = λ tasks z q. q })
+      subst (λ x. Follows d ks x (numbered n d Nothing) rows masks) (sym e)
+      (record { number = refl; column = refl; start = refl; finish = refl; clock = refl; columns = refl; height = refl; keeps = k; inside = omega arith; records = λ tasks z q. q })
 
   -- 1
   module _ (u : d .sound ≡ false) where
@@ -100,8 +117,8 @@ module _ (d : Device) (ks : List Task) {id s f l r : List ℕ} (k : Kept d ks id
     pub stands : SoundBoard b
     stands = sound-out (d .columns) (d .rows) (d .clock) ks (rw good tt)
 
-    pub all-sound : T (all? (slotSound (d .columns) (d .rows) (d .clock)) ks)
-    all-sound = each-sound (d .columns) (d .rows) (d .clock) ks (rw good tt)
+    abbrev table : Stands 64 ks (d .count) rows
+    table = k .kept u .stands
 
     -- what the records are
     booked-as : (tasks : List Task) → ks ≡ asBooked d tasks → ks ≡ allAgedTo (d .clock) tasks
@@ -119,12 +136,12 @@ module _ (d : Device) (ks : List Task) {id s f l r : List ℕ} (k : Kept d ks id
         (clocked-sound b i good ∙ rw (passed-over 11 (ltb i (d .clock)) (beyond i ∷ []) (le-ltb i (d .clock) h), refused-by 12 (ltb 2000000000 i) [] (lt-ltb 2000000000 i q)))
 
     -- THE CLOCK
-    pub step-clock : (i : ℕ) → d .clock ≤ i → i ≤ 2000000000 → {after : List ℕ} {used : ℕ} → Ended i f id after used
-        → Follows d ks (outcome b (Clock i))
-        (record { number = 0; column = 0; start = 0; finish = 0; device = record { clock = i; columns = d .columns; rows = d .rows; used = used; sound = true }; slot = 64; task = freeSlot }) after s f l r
-    unfolding outcome boardAt
-    step-clock i h q {after} {used} e =
-        subst (λ x. Follows d ks x (record { number = 0; column = 0; start = 0; finish = 0; device = record { clock = i; columns = d .columns; rows = d .rows; used = used; sound = true }; slot = 64; task = freeSlot }) after s f l r)
+    pub step-clock : (i : ℕ) → d .clock ≤ i → i ≤ 2000000000 → {count : ℕ} → After rows (d .count) i count → (used : ℕ)
+        → ((j : ℕ) → j < 64 → bit used j ≡ (bit (d .used) j && not (some? (λ (p : ℕ). eqb j (slotAt rows p)) (range count (d .count - count)))))
+        → Follows d ks (outcome b (Clock i)) (numbered 0 (withLive d i count used) Nothing) rows masks
+    unfolding outcome boardAt changed
+    step-clock i h q {count} a used f =
+        subst (λ x. Follows d ks x (numbered 0 (withLive d i count used) Nothing) rows masks)
         (sym (ap (λ x. record { answer = bare (x .number); board = x .board }) (clocked-done b i stands h q)))
         (record {
           number = refl;
@@ -133,39 +150,78 @@ module _ (d : Device) (ks : List Task) {id s f l r : List ℕ} (k : Kept d ks id
           finish = refl;
           clock = refl;
           columns = refl;
-          rows = refl;
-          kept = record {
+          height = refl;
+          keeps = record {
             slots = aged-length i ks ∙ k .slots;
-            ids = e .size ∙ k .ids;
-            starts = k .starts;
-            finishes = k .finishes;
-            lefts = k .lefts;
-            pasts = k .pasts;
-            good = is-true (sound (d .columns) (d .rows) i (allAgedTo i ks)) (sound-in (d .columns) (d .rows) i (allAgedTo i ks) (aged-sound (d .columns) (d .rows) (d .clock) i ks stands h q));
-            above = e .above;
-            mirrors = λ z. mirrors-aged (k .mirrors u) e;
+            size = k .size;
+            wide = k .wide;
+            good = after;
+            kept = λ z. record { good = after; stands = after-stands table a falls; falling = after-falling table a falls };
+            masked = λ z. after-masked table a falls (k .masked u);
+            used = λ z. in-use-after table a falls (k .used u) used f;
           };
+          inside = omega arith;
           records = λ tasks z w. ap (allAgedTo i) (booked-as tasks w) ∙ aged-twice (d .clock) i tasks h;
         })
+      where
+        falls : Falling (d .count) rows
+        falls = k .kept u .falling
+
+        after : sound (d .columns) (d .rows) i (allAgedTo i ks) ≡ true
+        after = is-true (sound (d .columns) (d .rows) i (allAgedTo i ks)) (sound-in (d .columns) (d .rows) i (allAgedTo i ks) (aged-sound (d .columns) (d .rows) (d .clock) i ks stands h q))
 
     -- 13
-    pub withdraw-none : (n slot : ℕ) → slot ≡ indexOf (named n) ks → 64 ≤ slot → outcome b (Withdraw n) ≡ record { answer = bare 13; board = b }
-    unfolding outcome withdrawnUntested withdrawnAt
-    withdraw-none n slot e h = ap (λ x. record { answer = bare (x .number); board = x .board }) (withdrawn-sound b n good ∙ rw (← e, le-ltb slot 64 h))
+    pub withdraw-none : (n p : ℕ) → Least (λ (i : ℕ). eqb (idAt rows i) n) 0 (d .count) p → p ≡ d .count → outcome b (Withdraw n) ≡ record { answer = bare 13; board = b }
+    unfolding outcome withdrawnUntested withdrawnAt known
+    withdraw-none n p l e =
+        ap (λ x. record { answer = bare (x .number); board = x .board }) (withdrawn-sound b n good ∙ rw (le-ltb (indexOf (named n) ks) 64 nowhere))
+      where
+        none : some? (λ (i : ℕ). eqb (idAt rows i) n) (range 0 (d .count)) ≡ false
+        none =
+            is-false (some? (λ (i : ℕ). eqb (idAt rows i) n) (range 0 (d .count)))
+            (pass-none (λ (i : ℕ). eqb (idAt rows i) n) (range 0 (d .count)) (λ i m. let w = range-in 0 (d .count) m in rw (l .before i (omega arith) (omega (arith, w .high))) tt))
 
-    module _ (n slot : ℕ) (e : slot ≡ indexOf (named n) ks) (h : slot < 64) where
-      inside : indexOf (named n) ks < length ks
-      inside = omega (arith, k .slots, e)
+        nowhere : 64 ≤ indexOf (named n) ks
+        nowhere =
+            let z = ltb-false (indexOf (named n) ks) (length ks) (sym (index-test (named n) ks) ∙ sym (known-same (d .columns) (d .rows) (d .clock) ks (d .count) rows table good n) ∙ none) in
+            omega (arith, k .slots)
 
-      is-live : T (live (getD ks slot freeSlot))
+    module _ (n p : ℕ) (l : Least (λ (i : ℕ). eqb (idAt rows i) n) 0 (d .count) p) (h : p < d .count) where
+      abbrev slot : ℕ
+      slot = slotAt rows p
+
+      abbrev taskThere : Task
+      taskThere = getD ks slot freeSlot
+
+      inside : slot < 64
+      inside = table .each p h .inside
+
+      there : T (live taskThere)
+      there = table .each p h .there
+
+      is-named : taskThere .id ≡ n
+      is-named = sym (id-at (d .columns) (d .rows) (d .clock) ks (d .count) rows table good p h) ∙ eqb-true (idAt rows p) n (l .here h)
+
+      -- the only slot of that id, and so the first
+      pub slot-is : slot ≡ indexOf (named n) ks
       unfolding named
-      is-live = subst (λ i. T (live (getD ks i freeSlot))) (sym e) (and-l (live (getD ks (indexOf (named n) ks) freeSlot)) (eqb (getD ks (indexOf (named n) ks) freeSlot .id) n) (index-passes (named n) ks freeSlot inside))
+      slot-is =
+          index-is (named n) ks freeSlot slot (omega (arith, k .slots, inside)) (λ j q. is-false (named n (getD ks j freeSlot)) (not-T (named n (getD ks j freeSlot)) (other j q)))
+          (λ q. is-true (named n taskThere) (and-i (live taskThere) (eqb (taskThere .id) n) there (rw (eq-named) tt)))
+        where
+          eq-named : eqb (taskThere .id) n ≡ true
+          eq-named = ap (λ x. eqb x n) (sym (id-at (d .columns) (d .rows) (d .clock) ks (d .count) rows table good p h)) ∙ l .here h
 
-      task : SoundTask (d .columns) (d .rows) (d .clock) (getD ks slot freeSlot)
-      task = stands .tasks (getD ks slot freeSlot) (getD-in ks slot freeSlot (omega (arith, k .slots))) is-live
+          other : (j : ℕ) → j < slot → T (live (getD ks j freeSlot) && eqb (getD ks j freeSlot .id) n) → ⊥
+          other j q t =
+              sorted-at Together live ks freeSlot (stands .together) j slot q (omega (arith, k .slots, inside)) (and-l (live (getD ks j freeSlot)) (eqb (getD ks j freeSlot .id) n) t) there .ids
+              (eqb→eq (getD ks j freeSlot .id) n (and-r (live (getD ks j freeSlot)) (eqb (getD ks j freeSlot .id) n) t) ∙ sym is-named)
 
-      begins : getD s slot 0 ≡ getD ks slot freeSlot .start
-      begins = k .mirrors u .start slot h is-live
+      task : SoundTask (d .columns) (d .rows) (d .clock) taskThere
+      task = stands .tasks taskThere (getD-in ks slot freeSlot (omega (arith, k .slots, inside))) there
+
+      begins : startAt rows p ≡ taskThere .start
+      begins = start-at (d .columns) (d .rows) (d .clock) ks (d .count) rows table good p h
 
       -- it runs exactly if its start has come
       run-begun : (x : Task) → InPhase (d .clock) x → x .start ≤ d .clock → runningPhase (x .phase) ≡ true
@@ -177,22 +233,23 @@ module _ (d : Device) (ks : List Task) {id s f l r : List ℕ} (k : Kept d ks id
       run-not x (waiting q w) z = rw q
 
       -- 14
-      pub withdraw-running : getD s slot 0 ≤ d .clock → outcome b (Withdraw n) ≡ record { answer = bare 14; board = b }
+      pub withdraw-running : startAt rows p ≤ d .clock → outcome b (Withdraw n) ≡ record { answer = bare 14; board = b }
       unfolding outcome withdrawnUntested withdrawnAt
       withdraw-running q =
           ap (λ x. record { answer = bare (x .number); board = x .board })
-          (withdrawn-sound b n good ∙ rw (← e, lt-ltb slot 64 h, run-begun (getD ks slot freeSlot) (task .phase) (omega (arith, begins))))
+          (withdrawn-sound b n good ∙ rw (← slot-is, lt-ltb slot 64 inside, run-begun taskThere (task .phase) (omega (arith, begins))))
 
-      withdrawn-there : d .clock < getD s slot 0 → withdrawn b n ≡ record { number = 0; board = boardOf (set ks slot freeSlot) (d .clock) (d .columns) (d .rows) }
+      withdrawn-there : d .clock < startAt rows p → withdrawn b n ≡ record { number = 0; board = boardOf (set ks slot freeSlot) (d .clock) (d .columns) (d .rows) }
       unfolding withdrawnUntested withdrawnAt
-      withdrawn-there q = withdrawn-sound b n good ∙ rw (← e, lt-ltb slot 64 h, run-not (getD ks slot freeSlot) (task .phase) (omega (arith, begins)))
+      withdrawn-there q = withdrawn-sound b n good ∙ rw (← slot-is, lt-ltb slot 64 inside, run-not taskThere (task .phase) (omega (arith, begins)))
 
       -- WITHDRAWN
-      pub step-withdraw : d .clock < getD s slot 0
-          → Follows d ks (outcome b (Withdraw n)) (record { number = 0; column = 0; start = 0; finish = 0; device = d; slot = slot; task = freeSlot }) (set id slot 0) s f l r
-      unfolding outcome
-      step-withdraw q =
-          subst (λ x. Follows d ks x (record { number = 0; column = 0; start = 0; finish = 0; device = d; slot = slot; task = freeSlot }) (set id slot 0) s f l r)
+      pub step-withdraw : d .clock < startAt rows p → {next words : List ℕ} → Closed 6 (d .count) p rows next → Closed 4 (d .count) p masks words → (used : ℕ)
+          → ((j : ℕ) → j < 64 → bit used j ≡ (bit (d .used) j && not (eqb j slot)))
+          → Follows d ks (outcome b (Withdraw n)) (numbered 0 (withLive d (d .clock) (d .count - 1) used) (Freed slot)) next words
+      unfolding outcome changed
+      step-withdraw q {next} {words} c w used f =
+          subst (λ x. Follows d ks x (numbered 0 (withLive d (d .clock) (d .count - 1) used) (Freed slot)) next words)
           (sym (ap (λ x. record { answer = bare (x .number); board = x .board }) (withdrawn-there q)))
           (record {
             number = refl;
@@ -201,28 +258,34 @@ module _ (d : Device) (ks : List Task) {id s f l r : List ℕ} (k : Kept d ks id
             finish = refl;
             clock = refl;
             columns = refl;
-            rows = refl;
-            kept = record {
+            height = refl;
+            keeps = record {
               slots = length-set ks slot freeSlot ∙ k .slots;
-              ids = length-set id slot 0 ∙ k .ids;
-              starts = k .starts;
-              finishes = k .finishes;
-              lefts = k .lefts;
-              pasts = k .pasts;
-              good = is-true (sound (d .columns) (d .rows) (d .clock) (set ks slot freeSlot)) (sound-in (d .columns) (d .rows) (d .clock) (set ks slot freeSlot) (subst (λ x. SoundBoard (x .board)) (withdrawn-there q) (withdrawn-stays-sound b n stands))) ∙ sym u;
-              above = above-free id (d .used) slot (k .above) (omega (arith, k .ids));
-              mirrors = λ z. mirrors-free (k .mirrors u) slot h;
+              size = c .size ∙ k .size;
+              wide = w .size ∙ k .wide;
+              good = after;
+              kept = λ z. record { good = after; stands = removed-stands table h c; falling = removed-falling table h c (k .kept u .falling) };
+              masked = λ z. removed-masked table h c w (k .masked u);
+              used = λ z. in-use-less (k .slots) (k .used u) used inside f;
             };
-            records = λ tasks z w. rw (lt-ltb slot 64 h, u) (ap (λ x. set x slot freeSlot) (booked-as tasks w) ∙ sym (aged-set (d .clock) tasks slot freeSlot ∙ ap (set (allAgedTo (d .clock) tasks) slot) (aged-free-slot (d .clock))));
+            inside = inside;
+            records = λ tasks z v. ap (λ x. set x slot freeSlot) (booked-as tasks v) ∙ sym (aged-set (d .clock) tasks slot freeSlot
+                ∙ ap (set (allAgedTo (d .clock) tasks) slot) (aged-free-slot (d .clock)));
           })
+        where
+          after : sound (d .columns) (d .rows) (d .clock) (set ks slot freeSlot) ≡ true
+          after =
+              is-true (sound (d .columns) (d .rows) (d .clock) (set ks slot freeSlot))
+              (sound-in (d .columns) (d .rows) (d .clock) (set ks slot freeSlot) (subst (λ x. SoundBoard (x .board)) (withdrawn-there q) (withdrawn-stays-sound b n stands)))
 
     -- 3 to 10
-    pub step-unplaced : (n : ℕ) (a : Submission) (x : Answer) (m : ℕ) → x ≡ submitted b n a .answer → ((c t e : ℕ) → x ≡ Placed c t e → ⊥) → told x ≡ bare m → outcome b (Submit n a) ≡ record { answer = bare m; board = b }
+    pub step-unplaced : (n : ℕ) (a : Submission) (x : Answer) (m : ℕ) → x ≡ submitted b n a .answer → ((c t e : ℕ) → x ≡ Placed c t e → ⊥) → told x ≡ bare m
+        → outcome b (Submit n a) ≡ record { answer = bare m; board = b }
     unfolding outcome
     step-unplaced n a x m e none? q = ap (λ y. record { answer = told (y .answer); board = y .board }) (unplaced-same b n a x (sym e) none?) ∙ ap (λ y. record { answer = y; board = b }) q
 
     -- A PLACE
-    module _ (n : ℕ) (a : Submission) (free c t e : ℕ) (z : free ≡ indexOf (λ x. not (live x)) ks) (q : Placed c t e ≡ submitted b n a .answer) where
+    module _ (n : ℕ) (a : Submission) (free c t e : ℕ) (z : free ≡ lowestFree ks) (q : Placed c t e ≡ submitted b n a .answer) where
       pub books : BooksAt b n a free c t e
       books = placed-books b n a z (sym q)
 
@@ -235,24 +298,29 @@ module _ (d : Device) (ks : List Task) {id s f l r : List ℕ} (k : Kept d ks id
       unfolding booked stamped phaseAt
       task-now x w =
           let twice : stamped (d .clock) (booked (d .clock) a t c) ≡ booked (d .clock) a t c = refl in
-          ap (agedTo (d .clock)) w ∙ aged-stands (d .clock) (booked (d .clock) a t c) (subst (λ y. T (live y)) w (task-live x w)) (omega (arith, books .from-now, books .accepted .e .low)) ∙ twice ∙ sym w
-
-      task-id : (x : Task) → x ≡ booked (d .clock) a t c → 1 ≤ x .id
-      unfolding booked stamped
-      task-id x w = subst (λ y. 1 ≤ y .id) (sym w) (books .accepted .id)
+          ap (agedTo (d .clock)) w ∙ aged-stands (d .clock) (booked (d .clock) a t c)
+          (subst (λ y. T (live y)) w (task-live x w)) (omega (arith, books .from-now, books .accepted .e .low)) ∙ twice ∙ sym w
 
       pub task-fits : (x : Task) → x ≡ booked (d .clock) a t c → x .start + x .e ≤ 4294967295
       unfolding booked stamped
       task-fits x w = subst (λ y. y .start + y .e ≤ 4294967295) (sym w) (omega (arith, books .fits))
 
-      pub step-placed : a .id ≤ 4294967295 → (x : Task) → x ≡ booked (d .clock) a t c → {used : ℕ} → used ≡ max (d .used) (free + 1)
-          → Follows d ks (outcome b (Submit n a))
-          (record { number = 0; column = c; start = t; finish = e; device = record { clock = d .clock; columns = d .columns; rows = d .rows; used = used; sound = true }; slot = free; task = x })
-          (set id free (x .id)) (set s free (x .start)) (set f free (x .start + x .e)) (set l free (x .column)) (set r free (x .column + x .w))
-      unfolding outcome told
-      step-placed i x w {used} y =
-          subst (λ o. Follows d ks o (record { number = 0; column = c; start = t; finish = e; device = record { clock = d .clock; columns = d .columns; rows = d .rows; used = used; sound = true }; slot = free; task = x })
-          (set id free (x .id)) (set s free (x .start)) (set f free (x .start + x .e)) (set l free (x .column)) (set r free (x .column + x .w)))
+      -- the slot is free, and the table has room
+      unused : live (getD ks free freeSlot) ≡ false
+      unused = not-false (subst (λ i. T (not (live (getD ks i freeSlot)))) (sym z) (index-passes (λ x. not (live x)) ks freeSlot (omega (arith, z, books .inside, k .slots))))
+        where
+          not-false : T (not (live (getD ks free freeSlot))) → live (getD ks free freeSlot) ≡ false
+          not-false t = is-false (live (getD ks free freeSlot)) t
+
+      pub has-room : d .count < 64
+      has-room = room table (books .inside) unused
+
+      pub step-placed : a .id ≤ 4294967295 → (x : Task) → x ≡ booked (d .clock) a t c → {next words : List ℕ} → Inserted (d .count) free x rows masks next words → (used : ℕ)
+          → ((j : ℕ) → j < 64 → bit used j ≡ (bit (d .used) j || eqb j free))
+          → Follows d ks (outcome b (Submit n a)) (record { number = 0; column = c; start = t; finish = e; device = withLive d (d .clock) (d .count + 1) used; change = Booked free x }) next words
+      unfolding outcome told changed
+      step-placed i x w {next} {words} p used f =
+          subst (λ o. Follows d ks o (record { number = 0; column = c; start = t; finish = e; device = withLive d (d .clock) (d .count + 1) used; change = Booked free x }) next words)
           (sym (ap (λ o. record { answer = told (o .answer); board = o .board }) same))
           (record {
             number = refl;
@@ -261,32 +329,42 @@ module _ (d : Device) (ks : List Task) {id s f l r : List ℕ} (k : Kept d ks id
             finish = books .finish;
             clock = refl;
             columns = refl;
-            rows = refl;
-            kept = record {
+            height = refl;
+            keeps = record {
               slots = length-set ks free x ∙ k .slots;
-              ids = length-set id free (x .id) ∙ k .ids;
-              starts = length-set s free (x .start) ∙ k .starts;
-              finishes = length-set f free (x .start + x .e) ∙ k .finishes;
-              lefts = length-set l free (x .column) ∙ k .lefts;
-              pasts = length-set r free (x .column + x .w) ∙ k .pasts;
-              good = is-true (sound (d .columns) (d .rows) (d .clock) (set ks free x)) (sound-in (d .columns) (d .rows) (d .clock) (set ks free x) (subst (λ o. SoundBoard (o .board)) same (submitted-sound b n a i stands)));
-              above = rw y (above-put id (d .used) free (x .id) (k .above) (books .inside));
-              mirrors = λ v. mirrors-put (k .mirrors u) free (books .inside) x (k .starts) (k .finishes) (k .lefts) (k .pasts) (task-live x w) (task-id x w);
+              size = p .numbers .size ∙ k .size;
+              wide = p .columns .size ∙ k .wide;
+              good = after;
+              kept = λ v. record {
+                good = after;
+                stands = inserted-stands table (books .inside) unused p (task-live x w);
+                falling = inserted-falling table (books .inside) unused p (k .kept u .falling);
+              };
+              masked = λ v. inserted-masked table (books .inside) unused p (k .masked u);
+              used = λ v. in-use-more (k .slots) (k .used u) used (books .inside) x (task-live x w) f;
             };
-            records = λ tasks v p. rw (lt-ltb free 64 (books .inside)) (ap (λ o. set o free x) (booked-as tasks p) ∙ sym (aged-set (d .clock) tasks free x ∙ ap (set (allAgedTo (d .clock) tasks) free) (task-now x w)));
+            inside = books .inside;
+            records = λ tasks v q. ap (λ o. set o free x) (booked-as tasks q) ∙ sym (aged-set (d .clock) tasks free x ∙ ap (set (allAgedTo (d .clock) tasks) free) (task-now x w));
           })
         where
           same : submitted b n a ≡ record { answer = Placed c t (t + a .e); board = boardOf (set ks free x) (d .clock) (d .columns) (d .rows) }
           same = books .same ∙ ap (λ o. record { answer = Placed c t (t + a .e); board = boardOf (set ks free o) (d .clock) (d .columns) (d .rows) }) (sym w)
 
+          after : sound (d .columns) (d .rows) (d .clock) (set ks free x) ≡ true
+          after =
+              is-true (sound (d .columns) (d .rows) (d .clock) (set ks free x))
+              (sound-in (d .columns) (d .rows) (d .clock) (set ks free x) (subst (λ o. SoundBoard (o .board)) same (submitted-sound b n a i stands)))
+
   -- A BOARD WITHOUT A TASK
-  step-empty : (n W H : ℕ) (well : Bool) (o : Outcome) (after : List ℕ) → o ≡ record { answer = bare n; board = freshBoard W H } → length after ≡ 64 → Above 0 after
-      → sound W H 0 (replicate 64 freeSlot) ≡ well → replicate 64 freeSlot ≡ asBooked (record { clock = 0; columns = W; rows = H; used = 0; sound = well }) (replicate 64 freeSlot)
-      → Follows d ks o (record { number = n; column = 0; start = 0; finish = 0; device = record { clock = 0; columns = W; rows = H; used = 0; sound = well }; slot = 65; task = freeSlot }) after s f l r
-  unfolding freshBoard
-  step-empty n W H well o after e z a g m =
-      subst (λ o. Follows d ks o (record { number = n; column = 0; start = 0; finish = 0; device = record { clock = 0; columns = W; rows = H; used = 0; sound = well }; slot = 65; task = freeSlot }) after s f l r)
-      (sym e)
+  abbrev pub emptied : ℕ → ℕ → Bool → Device
+  emptied W H well = record { clock = 0; columns = W; rows = H; count = 0; used = 0; sound = well }
+
+  step-empty : (n W H : ℕ) (well : Bool) (o : Outcome) → o ≡ record { answer = bare n; board = freshBoard W H }
+      → sound W H 0 (replicate 64 freeSlot) ≡ well → replicate 64 freeSlot ≡ asBooked (emptied W H well) (replicate 64 freeSlot)
+      → Follows d ks o (numbered n (emptied W H well) Cleared) rows masks
+  unfolding freshBoard changed
+  step-empty n W H well o e g m =
+      subst (λ o. Follows d ks o (numbered n (emptied W H well) Cleared) rows masks) (sym e)
       (record {
         number = refl;
         column = refl;
@@ -294,34 +372,31 @@ module _ (d : Device) (ks : List Task) {id s f l r : List ℕ} (k : Kept d ks id
         finish = refl;
         clock = refl;
         columns = refl;
-        rows = refl;
-        kept = record {
+        height = refl;
+        keeps = record {
           slots = length-replicate 64 freeSlot;
-          ids = z;
-          starts = k .starts;
-          finishes = k .finishes;
-          lefts = k .lefts;
-          pasts = k .pasts;
+          size = k .size;
+          wide = k .wide;
           good = g;
-          above = a;
-          mirrors = λ v. mirrors-none after s f l r z a;
+          kept = λ v. record { good = g ∙ v; stands = no-tasks rows; falling = λ i j l h. absurd (omega arith) };
+          masked = λ v. record { share = λ q i j a h. absurd (omega arith) };
+          used = λ v. use-in (replicate 64 freeSlot) 0 (λ j h. bit-of-zero j ∙ sym (ap live (getD-replicate 64 j freeSlot freeSlot h)));
         };
+        inside = omega arith;
         records = λ tasks v w. m;
       })
 
   -- A NEW BOARD, and the board of zeros
-  pub step-new : (W H : ℕ) (after : List ℕ) → deviceFits W H ≡ true → length after ≡ 64 → Above 0 after
-      → Follows d ks (outcome b (NewBoard W H)) (record { number = 0; column = 0; start = 0; finish = 0; device = record { clock = 0; columns = W; rows = H; used = 0; sound = true }; slot = 65; task = freeSlot }) after s f l r
+  pub step-new : (W H : ℕ) → deviceFits W H ≡ true → Follows d ks (outcome b (NewBoard W H)) (numbered 0 (emptied W H true) Cleared) rows masks
   unfolding outcome freshBoard
-  step-new W H after fits z a =
-      step-empty 0 W H true (outcome b (NewBoard W H)) after (ap (λ x. record { answer = bare (x .number); board = x .board }) (created-done W H fits)) z a
+  step-new W H fits =
+      step-empty 0 W H true (outcome b (NewBoard W H)) (ap (λ x. record { answer = bare (x .number); board = x .board }) (created-done W H fits))
       (is-true (sound W H 0 (replicate 64 freeSlot)) (sound-in W H 0 (replicate 64 freeSlot) fresh)) (sym (aged-now W H 0 (replicate 64 freeSlot) fresh))
     where
       fresh : Sound W H 0 (replicate 64 freeSlot)
       fresh = subst (λ x. SoundBoard (x .board)) (created-done W H fits) (created-sound W H (rw fits tt))
 
-  pub step-zero : (W H : ℕ) (after : List ℕ) → deviceFits W H ≡ false → length after ≡ 64 → Above 0 after
-      → Follows d ks (outcome b (NewBoard W H)) (record { number = 2; column = 0; start = 0; finish = 0; device = record { clock = 0; columns = 0; rows = 0; used = 0; sound = false }; slot = 65; task = freeSlot }) after s f l r
+  pub step-zero : (W H : ℕ) → deviceFits W H ≡ false → Follows d ks (outcome b (NewBoard W H)) (numbered 2 (emptied 0 0 false) Cleared) rows masks
   unfolding outcome freshBoard
-  step-zero W H after fits z a =
-      step-empty 2 0 0 false (outcome b (NewBoard W H)) after (ap (λ x. record { answer = bare (x .number); board = x .board }) (created-not W H fits)) z a zero-unsound refl
+  step-zero W H fits =
+      step-empty 2 0 0 false (outcome b (NewBoard W H)) (ap (λ x. record { answer = bare (x .number); board = x .board }) (created-not W H fits)) zero-unsound refl

@@ -1,47 +1,50 @@
--- The walk along a row: the runs that begin before the place where it stands are weighed; at the end all are. Assumes nothing.
+-- The walk along a row: the runs that begin before the place where it stands are listed; at the end all are. Assumes nothing.
 use Prim.Native.Nat.{ℕ, suc, _+_, _-_, _*_, _≤_, _<_}
 use mathlib.Core.Path.{_≡_, refl, sym, ap, _∙_, subst}
 use mathlib.Core.Logic.{_⊎_, inl, inr}
-use mathlib.Core.Bool.{Bool, true, false, not, cond, _||_}
+use mathlib.Core.Bool.{Bool, true, false, cond}
 use mathlib.Core.List.{List}
 use native.Mathlib.Omega.{arith}
 use native.Mathlib.Decide.{decLt, ℕ-discrete as decEq}
-use lib.Dec.{T, leb, ltb, eqb, eqb→eq, ltb→lt, leb→le, nltb→le, nleb→lt}
-use lib.ListN.{getD}
-use Rattle.lists.specs.Lists.{_∈_}
-use Rattle.lists.proofs.Bools.{or-cases, bool, is-true, is-false}
+use lib.Dec.{T, leb, leb→le, le→leb, nleb→lt}
+use lib.ListN.{length, getD, set, length-set}
+use lib.Seq.{getD-set-same, getD-set-other}
+use Rattle.lists.specs.Lists.{_∈_, range}
+use Rattle.lists.proofs.Members.{all-pass, pass-all, in-range, range-in}
 use Rattle.columns.specs.Columns.{columns, Run, runs}
 use Rattle.columns.proofs.Runs.{Longest, runs-longest, longest-runs}
-use Rattle.stuffing.specs.Fit.{Jumps, LastHeld, FirstHeld, key, none, NextFit}
+use Rattle.stuffing.specs.Fit.{unheld, Stretches, FirstHeld, key, none, Listed, NextKey, NextFit}
 
--- best is the least key past after among the longest runs that begin before `from` and are wide enough, or none
-pub record Weighed (passes : ℕ → Bool) (W w after from best : ℕ) : Type 0 where
-  pub least : (q : Run) → Longest passes 1 W q → q .left < from → w ≤ q .size → after < key q → best ≤ key q
-  pub one : (best ≡ none) ⊎ ((q : Run) × (Longest passes 1 W q) × (w ≤ q .size) × (after < key q) × (key q ≡ best))
+-- the number x is the key of a longest run that begins before `from` and is wide enough
+abbrev pub Stands : (passes : ℕ → Bool) (W w from x : ℕ) → Type 0
+Stands passes W w from x = (q : Run) × (Longest passes 1 W q) × (q .left < from) × (w ≤ q .size) × (key q ≡ x)
+
+-- the first m of the keys are theirs
+pub record Listing (passes : ℕ → Bool) (W w : ℕ) (keys : List ℕ) (m from : ℕ) : Type 0 where
+  pub each : (i : ℕ) → i < m → Stands passes W w from (getD keys i 0)
+  pub all : (q : Run) → Longest passes 1 W q → q .left < from → w ≤ q .size → (i : ℕ) × (i < m) × (getD keys i 0 ≡ key q)
+
+further : {passes : ℕ → Bool} {W w from x to : ℕ} → from ≤ to → Stands passes W w from x → Stands passes W w to x
+further h s = (s .0, s .1, omega (arith, s .2), s .3, s .4)
 
 -- an open run: the columns from `from` up to c pass, and the one before them does not
-pub record Standing (passes : ℕ → Bool) (W w after best from c : ℕ) : Type 0 where
+pub record Standing (passes : ℕ → Bool) (W w : ℕ) (keys : List ℕ) (m from c : ℕ) : Type 0 where
   pub low : 1 ≤ from
-  pub order : from ≤ c
+  pub order : from < c
   pub high : c ≤ suc W
-  pub most : best ≤ none
+  pub room : m < length keys
   pub passing : (k : ℕ) → from ≤ k → k < c → T (passes k)
   pub edge : (k : ℕ) → suc k ≡ from → 1 ≤ k → T (passes k) → ⊥
-  pub weighed : Weighed passes W w after from best
+  pub listed : Listing passes W w keys m from
 
--- what `closed` answers
-abbrev pub Closing : (from to w after best r : ℕ) → Type 0
-Closing from to w after best r = r ≡ cond (ltb (to - from) w || leb ((to - from) * 512 + from) after || leb best ((to - from) * 512 + from)) best ((to - from) * 512 + from)
-
--- the open run has ended at c: it is weighed too
-module _ {passes : ℕ → Bool} {W w after best from c : ℕ} (o : Standing passes W w after best from c) (wide : 1 ≤ w) (small : W ≤ 256)
-    (ended : c ≤ W → T (passes c) → ⊥) where
-  -- the run from `from` up to c, if it is not empty
-  open-run : from < c → Longest passes 1 W (record { left = from; size = c - from })
-  open-run l = record {
-    lies = record { low = o .low; high = omega (arith, o .high); not-empty = omega arith; passes = λ k p q. o .passing k p (omega arith) };
+-- the open run has ended at c: it is listed too, if it is wide enough
+module _ {passes : ℕ → Bool} {W w : ℕ} {keys : List ℕ} {m from c : ℕ} (o : Standing passes W w keys m from c) (ended : c ≤ W → T (passes c) → ⊥) where
+  -- the run from `from` up to c
+  open-run : Longest passes 1 W (record { left = from; size = c - from })
+  open-run = record {
+    lies = record { low = o .low; high = omega (arith, o .high); not-empty = omega (arith, o .order); passes = λ k p q. o .passing k p (omega arith) };
     left-end = λ k e p t. o .edge k e p t;
-    right-end = λ h t. let z : from + (c - from) ≡ c = omega arith in ended (omega (arith, z)) (subst (λ x. T (passes x)) z t);
+    right-end = λ h t. let z : from + (c - from) ≡ c = omega (arith, o .order) in ended (omega (arith, z)) (subst (λ x. T (passes x)) z t);
   }
 
   -- a longest run that begins before c and not before `from` is the open one
@@ -59,68 +62,55 @@ module _ {passes : ℕ → Bool} {W w after best from c : ℕ} (o : Standing pas
       sizes z (no a) (yes b) = absurd (ended (omega (arith, p .lies .high)) (p .lies .passes c (omega arith) (omega arith)))
       sizes z (no a) (no b) = omega arith
 
-  -- THE RUNS THAT BEGIN BEFORE c ARE WEIGHED
-  pub weigh : {r : ℕ} → Closing from c w after best r → (r ≤ none) × Weighed passes W w after c r
-  weigh {r} e = go (bool (ltb (c - from) w || leb k after || leb best k))
+  -- THE RUNS THAT BEGIN BEFORE c ARE LISTED
+  pub list-one : {r : ℕ} → r ≡ cond (leb w (c - from)) 1 0 → Listing passes W w (set keys m ((c - from) * 512 + from)) (m + r) c
+  list-one {r} e = go (leb w (c - from)) refl
     where
       k : ℕ
       k = (c - from) * 512 + from
 
-      old : (q : Run) → Longest passes 1 W q → q .left < c → w ≤ q .size → after < key q → Dec (q .left < from) → (best ≤ key q) ⊎ (key q ≡ k)
-      old q p l h a (yes m) = inl (o .weighed .least q p m h a)
-      old q p l h a (no m) = let z = is-open q p (omega arith) l in inr (ap (λ x. x * 512 + q .left) (z .1) ∙ ap (λ x. (c - from) * 512 + x) (z .0))
+      next : List ℕ
+      next = set keys m k
 
-      -- the open run is passed over: it is narrow, or tried, or no better
-      over : r ≡ best → T (ltb (c - from) w || leb k after || leb best k) → (r ≤ none) × Weighed passes W w after c r
-      over z t = (
-        omega (arith, o .most),
-        record {
-          least = λ q p l h a. still q p l h a (old q p l h a (decLt (q .left) from)) (decLt (q .left) from);
-          one = subst (λ x. (x ≡ none) ⊎ ((q : Run) × (Longest passes 1 W q) × (w ≤ q .size) × (after < key q) × (key q ≡ x))) (sym z) (o .weighed .one);
-        },
-      )
+      here : getD next m 0 ≡ k
+      here = getD-set-same keys m k 0 (o .room)
+
+      other : (i : ℕ) → i < m → getD next i 0 ≡ getD keys i 0
+      other i h = getD-set-other keys m i k 0 (λ z. omega arith)
+
+      old-each : (i : ℕ) → i < m → Stands passes W w c (getD next i 0)
+      old-each i h = further (omega (arith, o .order)) (subst (Stands passes W w from) (sym (other i h)) (o .listed .each i h))
+
+      old-all : {n : ℕ} → m ≤ n → (q : Run) → Longest passes 1 W q → q .left < from → w ≤ q .size → (i : ℕ) × (i < n) × (getD next i 0 ≡ key q)
+      old-all l q p b h = let s = o .listed .all q p b h in (s .0, omega (arith, s .1), other (s .0) (s .1) ∙ s .2)
+
+      -- it is wide enough
+      with-it : w ≤ c - from → r ≡ 1 → Listing passes W w next (m + r) c
+      with-it h z = record { each = λ i l. each i l (decLt i m); all = λ q p b l. all q p b l (decLt (q .left) from) }
         where
-          still : (q : Run) → Longest passes 1 W q → q .left < c → w ≤ q .size → after < key q → (best ≤ key q) ⊎ (key q ≡ k) → Dec (q .left < from) → r ≤ key q
-          still q p l h a (inl x) d = omega arith
-          still q p l h a (inr x) (yes d) = let y = o .weighed .least q p d h a in omega arith
-          still q p l h a (inr x) (no d) = cases (or-cases (ltb (c - from) w || leb k after) (leb best k) t)
-            where
-              narrow : T (ltb (c - from) w) ⊎ T (leb k after) → r ≤ key q
-              narrow (inl u) = absurd (let y = ltb→lt (c - from) w u in let v = is-open q p (omega arith) l in omega (arith, v .1))
-              narrow (inr u) = absurd (let y = leb→le k after u in omega arith)
+          each : (i : ℕ) → i < m + r → Dec (i < m) → Stands passes W w c (getD next i 0)
+          each i l (yes d) = old-each i d
+          each i l (no d) =
+              let y : m ≡ i = omega arith in
+              subst (λ x. Stands passes W w c (getD next x 0)) y (record { left = from; size = c - from }, open-run, o .order, h, sym here)
 
-              cases : T (ltb (c - from) w || leb k after) ⊎ T (leb best k) → r ≤ key q
-              cases (inl u) = narrow (or-cases (ltb (c - from) w) (leb k after) u)
-              cases (inr u) = let y = leb→le best k u in omega arith
+          all : (q : Run) → Longest passes 1 W q → q .left < c → w ≤ q .size → Dec (q .left < from) → (i : ℕ) × (i < m + r) × (getD next i 0 ≡ key q)
+          all q p b l (yes d) = old-all (omega arith) q p d l
+          all q p b l (no d) =
+              let y = is-open q p (omega arith) b in
+              (m, omega arith, here ∙ sym (ap (λ x. x * 512 + q .left) (y .1) ∙ ap (λ x. (c - from) * 512 + x) (y .0)))
 
-      -- the open run is better
-      better : r ≡ k → T (not (ltb (c - from) w || leb k after || leb best k)) → (r ≤ none) × Weighed passes W w after c r
-      better z t =
-          let f = facts t in (
-            omega (arith, o .high, o .order, o .low),
-            record {
-              least = λ q p l h a. less q p l h a (old q p l h a (decLt (q .left) from)) f;
-              one = inr (record { left = from; size = c - from }, open-run (omega (arith, f .0)), f .0, f .1, sym z);
-            },
-          )
+      -- it is narrow: the next one takes its place
+      without : c - from < w → r ≡ 0 → Listing passes W w next (m + r) c
+      without h z = record { each = λ i l. old-each i (omega arith); all = λ q p b l. all q p b l (decLt (q .left) from) }
         where
-          facts : T (not (ltb (c - from) w || leb k after || leb best k)) → (w ≤ c - from) × (after < k) × (k < best)
-          facts u = split (ltb (c - from) w) refl (leb k after) refl (leb best k) refl u
-            where
-              split : (x : Bool) → ltb (c - from) w ≡ x → (y : Bool) → leb k after ≡ y → (v : Bool) → leb best k ≡ v → T (not (x || y || v)) → (w ≤ c - from) × (after < k) × (k < best)
-              split false a false b false d s =
-                  (nltb→le (c - from) w (rw a tt), nleb→lt k after (rw b tt), nleb→lt best k (rw d tt))
-              split false a false b true d s = absurd s
-              split false a true b v d s = absurd s
-              split true a y b v d s = absurd s
+          all : (q : Run) → Longest passes 1 W q → q .left < c → w ≤ q .size → Dec (q .left < from) → (i : ℕ) × (i < m + r) × (getD next i 0 ≡ key q)
+          all q p b l (yes d) = old-all (omega arith) q p d l
+          all q p b l (no d) = absurd (omega (arith, is-open q p (omega arith) b .1))
 
-          less : (q : Run) → Longest passes 1 W q → q .left < c → w ≤ q .size → after < key q → (best ≤ key q) ⊎ (key q ≡ k) → (w ≤ c - from) × (after < k) × (k < best) → r ≤ key q
-          less q p l h a (inl x) f = omega (arith, f .2)
-          less q p l h a (inr x) f = omega arith
-
-      go : T (ltb (c - from) w || leb k after || leb best k) ⊎ T (not (ltb (c - from) w || leb k after || leb best k)) → (r ≤ none) × Weighed passes W w after c r
-      go (inl t) = over (e ∙ ap (λ b. cond b best k) (is-true (ltb (c - from) w || leb k after || leb best k) t)) t
-      go (inr t) = better (e ∙ ap (λ b. cond b best k) (is-false (ltb (c - from) w || leb k after || leb best k) t)) t
+      go : (b : Bool) → leb w (c - from) ≡ b → Listing passes W w next (m + r) c
+      go true z = with-it (leb→le w (c - from) (rw z tt)) (e ∙ ap (λ b. cond b 1 0) z)
+      go false z = without (nleb→lt w (c - from) (rw z tt)) (e ∙ ap (λ b. cond b 1 0) z)
 
 -- one free column more
 pub free-more : (row : List ℕ) (c k : ℕ) → getD row c 0 ≡ 0 → ((k ≡ c → ⊥) → getD row k 0 ≡ 0) → getD row k 0 ≡ 0
@@ -130,90 +120,131 @@ free-more row c k z f = step (decEq k c)
     step (yes e) = ap (λ x. getD row x 0) e ∙ z
     step (no e) = f e
 
--- WHERE THE WALK STANDS: the runs that begin before `from` are weighed, and none of them reaches it
-pub record Passed (passes : ℕ → Bool) (W w after best from : ℕ) : Type 0 where
+-- the test of a column by the stretches that begin up to it
+pub unheld-out : (row : List ℕ) (c : ℕ) → T (unheld row c) → (k : ℕ) → 1 ≤ k → k ≤ c → getD row k 0 ≤ c
+unfolding unheld
+unheld-out row c t k l h = leb→le (getD row k 0) c (all-pass (λ k. leb (getD row k 0) c) (range 1 c) t (in-range 1 c k l (omega arith)))
+
+pub unheld-in : (row : List ℕ) (c : ℕ) → ((k : ℕ) → 1 ≤ k → k ≤ c → getD row k 0 ≤ c) → T (unheld row c)
+unfolding unheld
+unheld-in row c f =
+    pass-all (λ k. leb (getD row k 0) c) (range 1 c) (λ k m. let w = range-in 1 c m in le→leb (getD row k 0) c (f k (w .low) (omega (arith, w .high))))
+
+-- WHERE THE WALK STANDS: the runs that begin before `from` are listed, and none of them reaches it; no stretch that begins before it does.
+-- Each listed one has taken a column, and the stretch behind it another
+pub record Passed (row : List ℕ) (W w : ℕ) (keys : List ℕ) (m from : ℕ) : Type 0 where
   pub low : 1 ≤ from
   pub high : from ≤ suc W
-  pub most : best ≤ none
-  pub edge : from ≤ W → (k : ℕ) → suc k ≡ from → 1 ≤ k → T (passes from) → T (passes k) → ⊥
-  pub weighed : Weighed passes W w after from best
+  pub size : length keys ≡ 129
+  pub few : m + m ≤ from
+  pub fewer : from ≤ W → getD row from 0 ≡ 0 → m + m < from
+  pub clear : (k : ℕ) → 1 ≤ k → k < from → getD row k 0 ≤ from
+  pub edge : from ≤ W → (k : ℕ) → suc k ≡ from → 1 ≤ k → T (unheld row from) → T (unheld row k) → ⊥
+  pub listed : Listing (unheld row) W w keys m from
 
-pub pass-first : (passes : ℕ → Bool) (W w after : ℕ) → Passed passes W w after none 1
-pass-first passes W w after = record {
+pub pass-first : (row : List ℕ) (W w : ℕ) {keys : List ℕ} → length keys ≡ 129 → Passed row W w keys 0 1
+pass-first row W w e = record {
   low = omega arith;
   high = omega arith;
-  most = omega arith;
+  size = e;
+  few = omega arith;
+  fewer = λ h z. omega arith;
+  clear = λ k l h. absurd (omega arith);
   edge = λ h k e l t s. omega arith;
-  weighed = record { least = λ q o l h a. absurd (omega (arith, o .lies .low)); one = inl refl };
+  listed = record { each = λ i h. absurd (omega arith); all = λ q o l h. absurd (omega (arith, o .lies .low)) };
 }
 
--- one of the next w columns is held: no run that is wide enough begins before its holder ends
-pub pass-held : {row : List ℕ} {W w after best from x : ℕ} → Passed (λ k. eqb (getD row k 0) 0) W w after best from → Jumps W row
-    → LastHeld row from (from + w) x → 0 < x → (from < x) × Passed (λ k. eqb (getD row k 0) 0) W w after best x
-pass-held {row} {W} {w} {after} {best} {from} {x} o j i n = go (i .held n)
-  where
-    go : (c : ℕ) × (from ≤ c) × (c < from + w) × (getD row c 0 ≡ x) → (from < x) × Passed (λ k. eqb (getD row k 0) 0) W w after best x
-    go (c, l, h, s) = (
-      omega (arith, up),
-      record {
-        low = omega (arith, up);
-        high = omega (arith, j .most c);
-        most = o .most;
-        edge = λ p k e m t u. held k (omega (arith, up)) (omega arith) u;
-        weighed = record { least = λ q p b m a. far q p b m a (decLt (q .left) from) (decLt c (q .left)); one = o .weighed .one };
-      },
-    )
-      where
-        up : c < x
-        up = omega (arith, j .up c (omega arith))
+module _ {row : List ℕ} {W w : ℕ} {keys : List ℕ} {m from : ℕ} (o : Passed row W w keys m from) (j : Stretches W row) where
+  -- a stretch begins here: no run begins before it ends
+  pub pass-held : {x : ℕ} → getD row from 0 ≡ x → 0 < x → (from < x) × Passed row W w keys m x
+  pass-held {x} e n = (
+    up,
+    record {
+      low = omega (arith, up);
+      high = omega (arith, j .most from (o .low));
+      size = o .size;
+      few = omega (arith, up, o .few);
+      fewer = λ h z. omega (arith, up, o .few);
+      clear = λ k l h. clear k l h (decLt k from) (decEq k from) (decLt 0 (getD row k 0));
+      edge = λ p k q m t u. held k (omega (arith, up)) (omega arith) u;
+      listed = record { each = λ i l. further (omega (arith, up)) (o .listed .each i l); all = λ q p b l. far q p b l (decLt (q .left) from) };
+    },
+  )
+    where
+      up : from < x
+      up = omega (arith, j .up from (o .low) (omega arith))
 
-        held : (k : ℕ) → c ≤ k → k < x → T (eqb (getD row k 0) 0) → ⊥
-        held k l m t = let z = eqb→eq (getD row k 0) 0 t in let y = j .held c k l (omega arith) in omega arith
+      held : (k : ℕ) → from ≤ k → k < x → T (unheld row k) → ⊥
+      held k l h t = omega (arith, unheld-out row k t from (o .low) l)
 
-        far : (q : Run) → Longest (λ k. eqb (getD row k 0) 0) 1 W q → q .left < x → w ≤ q .size → after < key q → Dec (q .left < from) → Dec (c < q .left) → best ≤ key q
-        far q p b m a (yes d) g = o .weighed .least q p d m a
-        far q p b m a (no d) (yes g) = absurd (held (q .left) (omega arith) b (p .lies .passes (q .left) (omega arith) (omega (arith, p .lies .not-empty))))
-        far q p b m a (no d) (no g) = absurd (held c (omega arith) up (p .lies .passes c (omega arith) (omega arith)))
+      clear : (k : ℕ) → 1 ≤ k → k < x → Dec (k < from) → Dec (k ≡ from) → Dec (0 < getD row k 0) → getD row k 0 ≤ x
+      clear k l h (yes a) b d = omega (arith, o .clear k l a, up)
+      clear k l h (no a) (yes b) d = let z : getD row k 0 ≡ x = ap (λ i. getD row i 0) b ∙ e in omega arith
+      clear k l h (no a) (no b) (yes d) = absurd (omega (arith, j .apart from k (o .low) (omega arith) d))
+      clear k l h (no a) (no b) (no d) = omega arith
 
--- the next w columns are free: the run from there, up to the first held column, is weighed
-pub pass-free : {row : List ℕ} {W w after best from to x : ℕ} → Passed (λ k. eqb (getD row k 0) 0) W w after best from → 1 ≤ w → W ≤ 256
-    → LastHeld row from (from + w) x → x ≡ 0 → FirstHeld row (from + w) W to → {r : ℕ} → Closing from to w after best r → Passed (λ k. eqb (getD row k 0) 0) W w after r to
-pass-free {row} {W} {w} {after} {best} {from} {to} o wide small i z f {r} e = record {
-  low = omega (arith, o .low, f .low);
-  high = f .high;
-  most = v .0;
-  edge = λ p k q m t u. ended p t;
-  weighed = v .1;
-}
-  where
-    free : (k : ℕ) → from ≤ k → k < to → T (eqb (getD row k 0) 0)
-    free k l h = subst (λ y. T (eqb y 0)) (sym (step (decLt k (from + w)))) tt
-      where
-        step : Dec (k < from + w) → getD row k 0 ≡ 0
-        step (yes d) = i .free z k l d
-        step (no d) = f .free k (omega arith) h
+      far : (q : Run) → Longest (unheld row) 1 W q → q .left < x → w ≤ q .size → Dec (q .left < from) → (i : ℕ) × (i < m) × (getD keys i 0 ≡ key q)
+      far q p b l (yes d) = o .listed .all q p d l
+      far q p b l (no d) = absurd (held (q .left) (omega arith) b (p .lies .passes (q .left) (omega arith) (omega (arith, p .lies .not-empty))))
 
-    ended : to ≤ W → T (eqb (getD row to 0) 0) → ⊥
-    ended p t = let y = eqb→eq (getD row to 0) 0 t in let u = f .held p in omega arith
+  -- none begins here: there is room for the key of the run from here
+  pub pass-room : W ≤ 256 → from ≤ W → getD row from 0 ≡ 0 → m < 129
+  pass-room small h z = omega (arith, o .fewer h z)
 
-    v : (r ≤ none) × Weighed (λ k. eqb (getD row k 0) 0) W w after to r
-    v = weigh (record {
+  -- it reaches up to the next stretch
+  pub pass-free : {to : ℕ} → W ≤ 256 → from ≤ W → getD row from 0 ≡ 0 → FirstHeld row (from + 1) W to → {r : ℕ} → r ≡ cond (leb w (to - from)) 1 0 → r ≤ 1
+      → Passed row W w (set keys m ((to - from) * 512 + from)) (m + r) to
+  pass-free {to} small inside z f {r} e one = record {
+    low = omega (arith, o .low, f .low);
+    high = f .high;
+    size = length-set keys m ((to - from) * 512 + from) ∙ o .size;
+    few = omega (arith, o .fewer inside z, f .low);
+    fewer = λ p y. absurd (omega (arith, f .held p));
+    clear = λ k l h. clear k l h to (omega (arith, f .low)) (decLt k from);
+    edge = λ p k q m t u. ended p t;
+    listed = list-one (record {
       low = o .low;
       order = omega (arith, f .low);
       high = f .high;
-      most = o .most;
+      room = omega (arith, o .size, pass-room small inside z);
       passing = free;
-      edge = λ k q m t. o .edge (omega (arith, f .low, f .high)) k q m (free from (omega arith) (omega (arith, f .low))) t;
-      weighed = o .weighed;
-    }) wide small ended e
+      edge = λ k q m t. o .edge inside k q m (free from (omega arith) (omega (arith, f .low))) t;
+      listed = o .listed;
+    }) ended e;
+  }
+    where
+      zeros : (k : ℕ) → from ≤ k → k < to → getD row k 0 ≡ 0
+      zeros k l h = free-more row from k z (λ n. f .free k (omega arith) h)
 
--- no room for w columns is left: all runs that are wide enough are weighed
-pub pass-last : {passes : ℕ → Bool} {W w after best from : ℕ} → Passed passes W w after best from → suc W < from + w → NextFit passes W w after best
-pass-last {passes} {W} {w} {after} {best} {from} o h = record {
-  least = λ q m l a. let p = runs-longest passes 1 W m in o .weighed .least q p (omega (arith, p .lies .high)) l a;
-  one = found (o .weighed .one);
+      clear : (k : ℕ) → 1 ≤ k → k < to → (c : ℕ) → from ≤ c → Dec (k < from) → getD row k 0 ≤ c
+      clear k l h c m (yes d) = omega (arith, o .clear k l d)
+      clear k l h c m (no d) = omega (arith, zeros k (omega arith) h)
+
+      free : (k : ℕ) → from ≤ k → k < to → T (unheld row k)
+      free k l h = unheld-in row k (λ c a b. clear c a (omega arith) k l (decLt c from))
+
+      ended : to ≤ W → T (unheld row to) → ⊥
+      ended p t = let y : 1 ≤ to = omega (arith, f .low) in omega (arith, unheld-out row to t to y (omega arith), j .up to y (f .held p))
+
+-- THE END: no room for w columns is left
+pub pass-last : {row : List ℕ} {W w : ℕ} {keys : List ℕ} {m from : ℕ} → Passed row W w keys m from → W ≤ 256 → suc W < from + w → Listed (unheld row) W w keys m
+pass-last {row} {W} {w} {keys} {m} {from} o small e = record {
+  few = omega (arith, o .few, o .high);
+  each = λ i h. let s = o .listed .each i h in (s .0, longest-runs (unheld row) 1 W (s .0) (s .1), s .3, s .4);
+  all = λ q i l. all q (runs-longest (unheld row) 1 W i) l (decLt (q .left) from);
 }
   where
-    found : (best ≡ none) ⊎ ((q : Run) × (Longest passes 1 W q) × (w ≤ q .size) × (after < key q) × (key q ≡ best)) → (best ≡ none) ⊎ ((q : Run) × (q ∈ runs passes (columns W)) × (w ≤ q .size) × (after < key q) × (key q ≡ best))
+    all : (q : Run) → Longest (unheld row) 1 W q → w ≤ q .size → Dec (q .left < from) → (i : ℕ) × (i < m) × (getD keys i 0 ≡ key q)
+    all q p l (yes d) = o .listed .all q p d l
+    all q p l (no d) = absurd (omega (arith, p .lies .high))
+
+-- THE NEXT KEY of the list is that of the row
+pub next-listed : {passes : ℕ → Bool} {W w : ℕ} {keys : List ℕ} {m after r : ℕ} → Listed passes W w keys m → NextKey keys m after r → NextFit passes W w after r
+next-listed {passes} {W} {w} {keys} {m} {after} {r} o n = record { least = least; one = found (n .one) }
+  where
+    least : (q : Run) → q ∈ runs passes (columns W) → w ≤ q .size → after < key q → r ≤ key q
+    least q i l a = let s = o .all q i l in omega (arith, s .2, n .least (s .0) (s .1) (omega (arith, s .2)))
+
+    found : (r ≡ none) ⊎ ((i : ℕ) × (i < m) × (getD keys i 0 ≡ r)) → (r ≡ none) ⊎ ((q : Run) × (q ∈ runs passes (columns W)) × (w ≤ q .size) × (after < key q) × (key q ≡ r))
     found (inl z) = inl z
-    found (inr s) = inr (s .0, longest-runs passes 1 W (s .0) (s .1), s .2, s .3, s .4)
+    found (inr z) = let s = o .each (z .0) (z .1) in inr (s .0, s .1, s .2, omega (arith, s .3, z .2, n .past), s .3 ∙ z .2)

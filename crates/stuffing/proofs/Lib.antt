@@ -1,5 +1,4 @@
-pub mod Rows
+pub mod Marks
 pub mod Fits
-pub mod HeldRows
 pub mod Steps
 pub mod Tries

@@ -6,46 +6,31 @@ use mathlib.Core.Bool.{Bool, true, false, not}
 use mathlib.Core.Option.{some}
 use mathlib.Core.List.{List, [], map}
 use native.Mathlib.Omega.{arith}
-use native.Mathlib.Decide.{decLe, decLt}
-use lib.Dec.{T, eqb}
-use lib.ListN.{getD}
+use native.Mathlib.Decide.{decLe}
+use lib.Dec.{T}
 use Rattle.lists.specs.Lists.{_∈_, some?, keep, head?}
-use Rattle.lists.proofs.Members.{map-in, in-map}
+use Rattle.lists.proofs.Members.{in-map, keep-none}
+use Rattle.lists.proofs.Order.{first-keep}
+use Rattle.lists.proofs.Append.{keep-map, head-map}
 use Rattle.ways.specs.Ways.{pair, isOpen}
 use Rattle.tasks.specs.declared.Task.{Task}
 use Rattle.tasks.specs.declared.Submission.{Submission}
 use Rattle.tasks.specs.Tasks.{finish, meets, stamped, booked}
 use Rattle.columns.specs.Columns.{columns, Run, runs, bestFit}
-use Rattle.columns.proofs.Runs.{Lies, runs-lie, runs-same}
+use Rattle.columns.proofs.Runs.{Lies, runs-lie}
 use Rattle.columns.proofs.BestFit.{Better, narrower, lefter, best-sorted, fit-in, in-fit}
 use Rattle.planners.specs.declared.Found.the-variants.{Nothing, At}
 use Rattle.planners.specs.Openings.{Place, ways}
 use Rattle.planners.specs.Planners.{free, leftEdge, clearOfWaiting, candidates, stuffing}
-use Rattle.planners.specs.Lent.{foundOf, tasksOf, OnDevice, asked}
+use Rattle.live.specs.Live.{tasksOf, OnDevice, NextFinish}
+use Rattle.planners.specs.Lent.{foundOf, asked}
 use Rattle.planners.proofs.Planners.{waiting-is-all}
-use Rattle.planners.proofs.Lent.{task-in, in-tasks, finish-at}
-use Rattle.planners.proofs.Walk.{Visits, visits-hit, visits-none, visits-on, first-kept, none-kept}
-use Rattle.held.specs.Held.{NextFinish}
-use Rattle.stuffing.specs.Fit.{meetsAt, Row, key, none, NextFit}
-
--- what a row says of the runs is what the tasks say
-pub fit-same : {W w after r : ℕ} {passes : ℕ → Bool} {row : List ℕ} → Row passes W row → NextFit (λ c. eqb (getD row c 0) 0) W w after r → NextFit passes W w after r
-fit-same {W} {w} {after} {r} {passes} {row} o n =
-    let e : runs (λ c. eqb (getD row c 0) 0) (columns W) ≡ runs passes (columns W) = runs-same (λ c. eqb (getD row c 0) 0) passes 1 W (λ k l h. o .says k l (omega arith)) in
-    record {
-      least = λ q m l h. n .least q (subst (λ x. q ∈ x) (sym e) m) l h;
-      one = found e (n .one);
-    }
-  where
-    found : runs (λ c. eqb (getD row c 0) 0) (columns W) ≡ runs passes (columns W)
-        → (r ≡ none) ⊎ ((q : Run) × (q ∈ runs (λ c. eqb (getD row c 0) 0) (columns W)) × (w ≤ q .size) × (after < key q) × (key q ≡ r))
-        → (r ≡ none) ⊎ ((q : Run) × (q ∈ runs passes (columns W)) × (w ≤ q .size) × (after < key q) × (key q ≡ r))
-    found e (inl z) = inl z
-    found e (inr z) = inr (z .0, subst (λ x. z .0 ∈ x) e (z .1), z .2, z .3, z .4)
+use Rattle.planners.proofs.Walk.{Visits, visits-hit, visits-none, visits-on, not-before, next-time}
+use Rattle.stuffing.specs.Fit.{meetsAt, key, none, NextFit}
 
 -- every free interval at t up to the key `after` that is wide enough meets a task at its left edge
 pub record Tried (W : ℕ) (ts : List Task) (w e t after : ℕ) : Type 0 where
-  pub most : after ≤ none
+  pub most : after < none
   pub met : (q : Run) → q ∈ runs (free ts t) (columns W) → w ≤ q .size → key q ≤ after → some? (meetsAt (q .left) w t e) ts ≡ true
 
 module _ (W now : ℕ) (ts : List Task) (w e d : ℕ) (small : W ≤ 256) where
@@ -54,6 +39,13 @@ module _ (W now : ℕ) (ts : List Task) (w e d : ℕ) (small : W ≤ 256) where
 
   abbrev meet : ℕ → ℕ → Bool
   meet t c = some? (meetsAt c w t e) ts
+
+  -- the free intervals at t that are wide enough, narrowest first; the left edge of one is clear of waiting tasks
+  abbrev best : ℕ → List Run
+  best t = bestFit w (runs (free ts t) (columns W))
+
+  abbrev clear : ℕ → Run → Bool
+  clear t q = clearOfWaiting W now ts a t (leftEdge t q)
 
   abbrev Tries : ℕ → ℕ → Type 0
   Tries t after = Tried W ts w e t after
@@ -72,18 +64,19 @@ module _ (W now : ℕ) (ts : List Task) (w e d : ℕ) (small : W ≤ 256) where
   small-key t q m = let o = lies t q m in omega (arith, o .high, o .not-empty, o .low)
 
   -- the test of the code is that of the book
-  clear-is : (t : ℕ) {p : Place} → p ∈ map (leftEdge t) (bestFit w (runs (free ts t) (columns W))) → clearOfWaiting W now ts a t p ≡ not (meet (p .start) (p .place))
+  clear-is : (t : ℕ) {p : Place} → p ∈ map (leftEdge t) (best t) → clearOfWaiting W now ts a t p ≡ not (meet (p .start) (p .place))
   clear-is t {p} m = waiting-is-all W now ts a t m ∙ (unfold isOpen ways booked stamped meets in refl)
 
-  edge-clear : (t : ℕ) (q : Run) → q ∈ bestFit w (runs (free ts t) (columns W)) → clearOfWaiting W now ts a t (leftEdge t q) ≡ not (meet t (q .left))
+  edge-clear : (t : ℕ) (q : Run) → q ∈ best t → clear t q ≡ not (meet t (q .left))
   edge-clear t q m = clear-is t (in-map (leftEdge t) m)
 
   -- all are tried: no candidate
   pub tries-none : {t after r : ℕ} → Tries t after → NextFit (free ts t) W w after r → r ≡ none → candidates W now ts a t ≡ []
   unfolding candidates
-  tries-none {t} {after} {r} o n z = none-kept (clearOfWaiting W now ts a t) (leftEdge t) (bestFit w (runs (free ts t) (columns W))) each
+  tries-none {t} {after} {r} o n z =
+      keep-map (clearOfWaiting W now ts a t) (leftEdge t) (best t) ∙ ap (map (leftEdge t)) (keep-none (clear t) (best t) each)
     where
-      each : (q : Run) → q ∈ bestFit w (runs (free ts t) (columns W)) → T (not (clearOfWaiting W now ts a t (leftEdge t q)))
+      each : (q : Run) → q ∈ best t → T (not (clear t q))
       each q m =
           let f = fit-in w (runs (free ts t) (columns W)) m in
           subst (λ b. T (not b)) (sym (edge-clear t q m ∙ ap not (o .met q (f .0) (f .1) (tried f (decLe (key q) after))))) tt
@@ -97,22 +90,26 @@ module _ (W now : ℕ) (ts : List Task) (w e d : ℕ) (small : W ≤ 256) where
   unfolding candidates
   tries-hit {t} {after} {r} o n f z = go (n .one)
     where
-      go : (r ≡ none) ⊎ ((q : Run) × (q ∈ runs (free ts t) (columns W)) × (w ≤ q .size) × (after < key q) × (key q ≡ r)) → head? (keep (clearOfWaiting W now ts a t) (map (leftEdge t) (bestFit w (runs (free ts t) (columns W))))) ≡ some (pair t (r % 512))
+      go : (r ≡ none) ⊎ ((q : Run) × (q ∈ runs (free ts t) (columns W)) × (w ≤ q .size) × (after < key q) × (key q ≡ r))
+          → head? (keep (clearOfWaiting W now ts a t) (map (leftEdge t) (best t))) ≡ some (pair t (r % 512))
       go (inl k) = absurd (f k)
       go (inr k) =
           let q = k .0 in
           let c : q .left ≡ r % 512 = sym (left-of t q (k .1)) ∙ ap (λ x. x % 512) (k .4) in
           let m = in-fit w (runs (free ts t) (columns W)) (k .1) (k .2) in
-          first-kept Better (clearOfWaiting W now ts a t) (leftEdge t) (best-sorted w (free ts t) 1 W) m
+          ap head? (keep-map (clearOfWaiting W now ts a t) (leftEdge t) (best t))
+          ∙ head-map (leftEdge t) (keep (clear t) (best t))
+          (first-keep Better (clear t) (best-sorted w (free ts t) 1 W) m
           (subst T (sym (edge-clear t q m ∙ ap not (ap (meet t) c ∙ z))) tt)
-          (λ x i b. before x i (k .4) (fit-in w (runs (free ts t) (columns W)) i) (less q x (k .1) b))
+          (λ x i b. before x i (k .4) (fit-in w (runs (free ts t) (columns W)) i) (less q x (k .1) b)))
           ∙ ap (λ x. some (pair t x)) c
         where
           less : (q x : Run) → q ∈ runs (free ts t) (columns W) → Better x q → x ∈ runs (free ts t) (columns W) → key x < key q
           less q x i (narrower h) j = let u = lies t x j in omega (arith, u .high, u .not-empty)
           less q x i (lefter e h) j = let y : x .size * 512 ≡ q .size * 512 = ap (λ s. s * 512) e in omega arith
 
-          before : (x : Run) → x ∈ bestFit w (runs (free ts t) (columns W)) → key (k .0) ≡ r → (x ∈ runs (free ts t) (columns W)) × (w ≤ x .size) → (x ∈ runs (free ts t) (columns W) → key x < key (k .0)) → T (not (clearOfWaiting W now ts a t (leftEdge t x)))
+          before : (x : Run) → x ∈ best t → key (k .0) ≡ r → (x ∈ runs (free ts t) (columns W)) × (w ≤ x .size)
+              → (x ∈ runs (free ts t) (columns W) → key x < key (k .0)) → T (not (clear t x))
           before x i y j b =
               subst (λ v. T (not v)) (sym (edge-clear t x i ∙ ap not (o .met x (j .0) (j .1) (tried (decLe (key x) after))))) tt
             where
@@ -124,7 +121,7 @@ module _ (W now : ℕ) (ts : List Task) (w e d : ℕ) (small : W ≤ 256) where
   pub tries-on : {t after r : ℕ} → Tries t after → NextFit (free ts t) W w after r → (r ≡ none → ⊥) → meet t (r % 512) ≡ true → Tries t r
   tries-on {t} {after} {r} o n f z = record { most = most (n .one); met = λ q m l k. each q m l k (decLe (key q) after) }
     where
-      most : (r ≡ none) ⊎ ((q : Run) × (q ∈ runs (free ts t) (columns W)) × (w ≤ q .size) × (after < key q) × (key q ≡ r)) → r ≤ none
+      most : (r ≡ none) ⊎ ((q : Run) × (q ∈ runs (free ts t) (columns W)) × (w ≤ q .size) × (after < key q) × (key q ≡ r)) → r < none
       most (inl k) = absurd (f k)
       most (inr k) = let s = small-key t (k .0) (k .1) in omega (arith, k .4)
 
@@ -146,41 +143,18 @@ module _ (W now : ℕ) (ts : List Task) (w e d : ℕ) (small : W ≤ 256) where
 abbrev pub Stuffs : (W now : ℕ) → List Task → (w e d : ℕ) → ℕ → Type 0
 Stuffs W now ts w e d t = Visits W now ts (asked w e d) (candidates W now ts (asked w e d)) (map finish ts) t
 
-module _ (W now n : ℕ) (s f l r : List ℕ) (o : OnDevice W n s f l r) (w e d : ℕ) where
+module _ (W now n : ℕ) (live : List ℕ) (o : OnDevice W n live) (w e d : ℕ) where
   abbrev ts : List Task
-  ts = tasksOf n s f l r
-
-  -- each time is the finish of a task
-  time-at : (x : ℕ) → x ∈ map finish ts → (i : ℕ) × (i < n) × (x ≡ getD f i 0)
-  time-at x m =
-      let k = map-in finish ts m in
-      let j = task-in s f l r n (k .1) in
-      (j .0, j .1, k .2 ∙ ap finish (j .2) ∙ finish-at o (j .0) (j .1))
-
-  at-time : (i : ℕ) → i < n → getD f i 0 ∈ map finish ts
-  at-time i h = subst (λ x. x ∈ map finish ts) (finish-at o i h) (in-map finish (in-tasks s f l r n i h))
+  ts = tasksOf n live
 
   pub stuffs-hit : {t c : ℕ} → Stuffs W now ts w e d t → head? (candidates W now ts (asked w e d) t) ≡ some (pair t c) → At c t ≡ foundOf (stuffing W now ts (asked w e d))
   unfolding stuffing
   stuffs-hit v q = sym (ap foundOf (visits-hit W now ts (asked w e d) (candidates W now ts (asked w e d)) (map finish ts) v q))
 
-  -- a finish past t is not before the next one
-  not-before : {t u : ℕ} → NextFinish f n t u → (y : ℕ) → y ∈ map finish ts → (y ≤ t) ⊎ (u ≤ y)
-  not-before {t} {u} x y m = let k = time-at y m in pick (k .0) (k .1) (k .2) (decLt t y)
-    where
-      pick : (i : ℕ) → i < n → y ≡ getD f i 0 → Dec (t < y) → (y ≤ t) ⊎ (u ≤ y)
-      pick i h z (yes p) = inr (omega (arith, x .least i h (omega arith)))
-      pick i h z (no p) = inl (omega arith)
-
-  pub stuffs-none : {t u : ℕ} → Stuffs W now ts w e d t → candidates W now ts (asked w e d) t ≡ [] → NextFinish f n t u → d - e < u → e ≤ d → Nothing ≡ foundOf (stuffing W now ts (asked w e d))
+  pub stuffs-none : {t u : ℕ} → Stuffs W now ts w e d t → candidates W now ts (asked w e d) t ≡ [] → NextFinish live n t u → d - e < u → e ≤ d → Nothing ≡ foundOf (stuffing W now ts (asked w e d))
   unfolding stuffing
-  stuffs-none {t} {u} v q x h g = sym (ap foundOf (visits-none W now ts (asked w e d) (candidates W now ts (asked w e d)) (map finish ts) v q (not-before x) (omega arith)))
+  stuffs-none {t} {u} v q x h g = sym (ap foundOf (visits-none W now ts (asked w e d) (candidates W now ts (asked w e d)) (map finish ts) v q (not-before o x) (omega arith)))
 
-  pub stuffs-on : {t u : ℕ} → Stuffs W now ts w e d t → candidates W now ts (asked w e d) t ≡ [] → NextFinish f n t u → u ≤ d - e → e ≤ d → d ≤ 2000000000 → Stuffs W now ts w e d u
-  stuffs-on {t} {u} v q x h g k = go (x .one)
-    where
-      go : (u ≡ none) ⊎ ((i : ℕ) × (i < n) × (getD f i 0 ≡ u)) → Stuffs W now ts w e d u
-      go (inl z) = absurd (omega arith)
-      go (inr z) =
-          visits-on W now ts (asked w e d) (candidates W now ts (asked w e d)) (map finish ts) v q (not-before x)
-          (subst (λ y. y ∈ map finish ts) (z .2) (at-time (z .0) (z .1))) (x .after) (omega arith)
+  pub stuffs-on : {t u : ℕ} → Stuffs W now ts w e d t → candidates W now ts (asked w e d) t ≡ [] → NextFinish live n t u → u ≤ d - e → e ≤ d → d ≤ 2000000000 → Stuffs W now ts w e d u
+  stuffs-on {t} {u} v q x h g k =
+      visits-on W now ts (asked w e d) (candidates W now ts (asked w e d)) (map finish ts) v q (not-before o x) (next-time o x (omega arith)) (x .after) (omega arith)

@@ -1,14 +1,16 @@
-// Stuffing (Algorithm 2 of the source) over the live tasks as arrays of numbers. Reference is its first instant.
+// Stuffing (Algorithm 2 of the source) over the live tasks that are lent, by the plain method: column by column.
 ghost use mathlib.Core.Path.{_≡_};
-ghost use mathlib.Core.Bool.{cond, _||_};
-ghost use Prim.Native.Nat.{_+_, _-_, _*_, _≤_, _<_};
-ghost use lib.Dec.{leb, ltb, eqb};
-ghost use lib.ListN.{length, getD};
+ghost use mathlib.Core.Bool.{cond};
+ghost use Prim.Native.Nat.{_+_, _≤_, _<_, min};
+ghost use lib.ListN.{length, replicate};
 ghost use Rattle.lists.specs.Lists.{some?};
-ghost use Rattle.planners.specs.Planners.{free, stuffing};
-ghost use Rattle.planners.specs.Lent.{foundOf, tasksOf, OnDevice, asked};
-ghost use Rattle.stuffing.specs.Fit.{meetsAt, HeldTo, Row, Jumps, LastHeld, FirstHeld, NextFit};
+ghost use Rattle.planners.specs.Planners.{stuffing};
+ghost use Rattle.live.specs.Live.{OnDevice, Falling, Apart, After, tasksOf};
+ghost use Rattle.planners.specs.Lent.{foundOf, Fits, wanted};
+ghost use Rattle.stuffing.specs.Fit.{meetsAt, Marked, unheld, Stretches, FirstHeld, Listed, NextKey};
+use live::Live;
 use planners::Found;
+use planners::Window;
 
 // No number: past every key.
 const NONE: u32 = 0xffff_ffff;
@@ -20,82 +22,29 @@ fn wide(x: u16) -> u32
     x as u32
 }
 
-// The columns from `from` up to, not including, `to` held: each says where the holder's columns end, so that a walk can jump.
-fn hold(row: &mut [u16; 257], from: u32, to: u32)
-    requires { ⌜ (to ≤ 257) × (length (now row) ≡ 257) ⌝ }
-    ensures { λ _. ⌜ HeldTo (now (row .entry)) from to (now (row .exit)) to ⌝ }
+// A column, or 0, which is none, where the task does not hold it.
+fn column_if(holds: bool, column: u32) -> u32
+    ensures { λ r. ⌜ r ≡ cond holds column 0 ⌝ }
 {
-    let past = to as u16;
-    let mut c = from;
-    while c < to {
-        let at = c as usize;
-        row[at] = past;
-        c += 1;
-    }
+    if holds { column } else { 0 }
 }
 
-// The end of a task's columns where it holds them, else their begin: then nothing is held.
-fn reach(holds: bool, from: u32, to: u32) -> u32
-    ensures { λ r. ⌜ r ≡ cond holds to from ⌝ }
+// The columns that some task holds at t, in a row of zeros: at the first column of each task that holds them, the first one past it. Only
+// the first n tasks finish after t. No two of them share a column at t, so a walk along the row jumps from held columns to free ones; what
+// stands at 0 means nothing, and spares a branch.
+fn mark_held(live: &Live, n: usize, t: u32, row: &mut [u16; 257])
+    requires { ⌜ OnDevice 256 n (now live) × (now row ≡ replicate 257 0) ⌝ }
+    ensures { λ _. ⌜ Marked (now (live .entry)) n t (now (row .exit)) ⌝ }
 {
-    if holds { to } else { from }
-}
-
-// The columns that some task holds at t: 0 for a free one, else the first column past a task that holds it.
-fn held_row<'a>(
-    start: &'a [u32; 64],
-    finish: &'a [u32; 64],
-    left: &'a [u32; 64],
-    past: &'a [u32; 64],
-    count: usize,
-    width: u32,
-    t: u32,
-) -> [u16; 257]
-    requires { ⌜ OnDevice width count (now start) (now finish) (now left) (now past) ⌝ }
-    ensures { λ r. ⌜ Row (free (tasksOf count (now (start .entry)) (now (finish .entry)) (now (left .entry)) (now (past .entry))) t) width r ⌝ }
-{
-    let mut row = [0u16; 257];
     let mut i: usize = 0;
-    while i < count {
-        let from = left[i];
-        let to = reach((start[i] <= t) & (t < finish[i]), from, past[i]);
-        hold(&mut row, from, to);
+    while i < n {
+        let at = column_if(live[live::START + i] <= t, live[live::LEFT + i]) as usize;
+        row[at] = live[live::PAST + i] as u16;
         i += 1;
     }
-    row
 }
 
-// The lesser of best and the key of the run of columns from `from` up to `to`, where that run is wide enough and its key past `after`.
-fn closed(from: u32, to: u32, w: u32, after: u32, best: u32) -> u32
-    requires { ⌜ (from ≤ to) × (to ≤ 257) ⌝ }
-    ensures { λ r. ⌜ r ≡ cond (ltb (to - from) w || leb ((to - from) * 512 + from) after || leb best ((to - from) * 512 + from)) best ((to - from) * 512 + from) ⌝ }
-{
-    let size = to - from;
-    let key = size * 512 + from;
-    if (size < w) | (key <= after) | (best <= key) {
-        return best;
-    }
-    key
-}
-
-// Of the columns from `from` up to, not including, `to`: the first column past the holder of the last that is held; 0 where all are free.
-fn last_held(row: &[u16; 257], from: u32, to: u32) -> u32
-    requires { ⌜ to ≤ 257 ⌝ }
-    ensures { λ r. ⌜ LastHeld (now (row .entry)) from to r ⌝ }
-{
-    let mut c = to;
-    while from < c {
-        c -= 1;
-        let at = c as usize;
-        let past = wide(row[at]);
-        if past != 0 {
-            return past;
-        }
-    }
-    0
-}
-
-// The first column from `from` on that is held, or the one past the width.
+// The first column from `from` on that a task begins at, or the one past the width.
 fn first_held(row: &[u16; 257], from: u32, width: u32) -> u32
     requires { ⌜ (width ≤ 256) × (from ≤ width + 1) ⌝ }
     ensures { λ r. ⌜ FirstHeld (now (row .entry)) from width r ⌝ }
@@ -111,49 +60,81 @@ fn first_held(row: &[u16; 257], from: u32, width: u32) -> u32
     c
 }
 
-// The next free interval in best-fit order after the one with the key `after`: its key, size * 512 + left edge, or NONE. The w
-// columns from `from` on are looked at from their far end: where one is held, no interval that is wide enough begins before its holder ends.
-fn next_fit(row: &[u16; 257], width: u32, w: u32, after: u32) -> u32
-    requires { ⌜ (width ≤ 256) × (1 ≤ w) × (w ≤ 256) × Jumps width (now row) ⌝ }
-    ensures { λ r. ⌜ NextFit (λ c. eqb (getD (now (row .entry)) c 0) 0) width w after r ⌝ }
+// 1 for an interval that is wide enough.
+fn one_if(fits: bool) -> usize
+    ensures { λ r. ⌜ r ≡ cond fits 1 0 ⌝ }
+    ensures { λ r. ⌜ r ≤ 1 ⌝ }
 {
-    let mut best = NONE;
+    if fits { 1 } else { 0 }
+}
+
+// The keys of the free intervals that are wide enough, size * 512 + left edge, from left to right; gives their number. Each is stored, and
+// counted only where it is wide enough: no branch to miss.
+fn list_fits(row: &[u16; 257], width: u32, w: u32, keys: &mut [u32; 129]) -> usize
+    requires { ⌜ (width ≤ 256) × (1 ≤ w) × (w ≤ 256) × Stretches width (now row) × (length (now keys) ≡ 129) ⌝ }
+    ensures { λ r. ⌜ Listed (unheld (now (row .entry))) width w (now (keys .exit)) r ⌝ }
+{
+    let mut m: usize = 0;
     let mut from: u32 = 1;
     while from + w <= width + 1 {
-        let past = last_held(row, from, from + w);
+        let at = from as usize;
+        let past = wide(row[at]);
         if past == 0 {
-            let to = first_held(row, from + w, width);
-            best = closed(from, to, w, after, best);
+            let to = first_held(row, from + 1, width);
+            keys[m] = (to - from) * 512 + from;
+            m += one_if(w <= to - from);
             from = to;
         } else {
             from = past;
         }
     }
-    best
+    m
 }
 
-// Whether a stay on w columns from c on, e ticks from t on, shares a column with a task at a tick.
-fn meets_any<'a>(
-    start: &'a [u32; 64],
-    finish: &'a [u32; 64],
-    left: &'a [u32; 64],
-    past: &'a [u32; 64],
+fn lesser(x: u32, y: u32) -> u32
+    ensures { λ r. ⌜ r ≡ min x y ⌝ }
+{
+    if x < y { x } else { y }
+}
+
+// The least key after `after`, or NONE. It is kept as what it lies past `after` + 1: a key up to there wraps to a number too large to count,
+// so that one comparison does for two.
+fn next_key(keys: &[u32; 129], m: usize, after: u32) -> u32
+    requires { ⌜ (m ≤ 129) × (after < 4294967295) ⌝ }
+    ensures { λ r. ⌜ NextKey (now (keys .entry)) m after r ⌝ }
+{
+    let from = after + 1;
+    let mut best: u32 = 0xffff_ffff - from;
+    let mut i: usize = 0;
+    while i < m {
+        best = lesser(std::num::wrapping_sub_u32(keys[i], from), best);
+        i += 1;
+    }
+    from + best
+}
+
+// Whether a stay on w columns from c on, e ticks from t on, shares a column with a task at a tick. Only the first n tasks finish after t.
+fn meets_any(
+    live: &Live,
     count: usize,
+    n: usize,
     width: u32,
     c: u32,
     w: u32,
     t: u32,
     e: u32,
 ) -> bool
-    requires { ⌜ OnDevice width count (now start) (now finish) (now left) (now past) ⌝ }
+    requires { ⌜ OnDevice width count (now live) × Falling count (now live) × After (now live) count t n ⌝ }
     requires { ⌜ (1 ≤ w) × (1 ≤ e) × (c + w ≤ 4294967295) × (t + e ≤ 4294967295) ⌝ }
-    ensures { λ r. ⌜ r ≡ some? (meetsAt c w t e) (tasksOf count (now (start .entry)) (now (finish .entry)) (now (left .entry)) (now (past .entry))) ⌝ }
+    ensures { λ r. ⌜ r ≡ some? (meetsAt c w t e) (tasksOf count (now (live .entry))) ⌝ }
 {
     let to = c + w;
     let end = t + e;
     let mut i: usize = 0;
-    while i < count {
-        if ((c < past[i]) & (left[i] < to)) & ((t < finish[i]) & (start[i] < end)) {
+    while i < n {
+        if ((c < live[live::PAST + i]) & (live[live::LEFT + i] < to))
+            & (live[live::START + i] < end)
+        {
             return true;
         }
         i += 1;
@@ -163,43 +144,36 @@ fn meets_any<'a>(
 
 // The first candidate without a conflict ends both walks: through the visited times, and through the free intervals of each
 // in best-fit order.
-pub fn stuffing<'a>(
-    start: &'a [u32; 64],
-    finish: &'a [u32; 64],
-    left: &'a [u32; 64],
-    past: &'a [u32; 64],
-    count: usize,
-    width: u32,
-    clock: u32,
-    w: u32,
-    e: u32,
-    d: u32,
-) -> Found
-    requires { ⌜ OnDevice width count (now start) (now finish) (now left) (now past) ⌝ }
-    requires { ⌜ (1 ≤ w) × (w ≤ width) × (1 ≤ e) × (clock + e ≤ d) × (d ≤ 2000000000) ⌝ }
-    ensures { λ r. ⌜ r ≡ foundOf (stuffing width clock (tasksOf count (now (start .entry)) (now (finish .entry)) (now (left .entry)) (now (past .entry))) (asked w e d)) ⌝ }
+pub fn stuffing(live: &Live, count: usize, q: Window) -> Found
+    requires { ⌜ OnDevice (q .width) count (now live) × Falling count (now live) × Apart count (now live) × Fits q ⌝ }
+    ensures { λ r. ⌜ r ≡ foundOf (stuffing (q .width) (q .clock) (tasksOf count (now (live .entry))) (wanted q)) ⌝ }
 {
-    let last = d - e;
-    let mut t = clock;
+    let last = q.d - q.e;
+    let mut t = q.clock;
+    let mut n = live::after(live, count, t);
     'visits: loop {
-        let row = held_row(start, finish, left, past, count, width, t);
+        let mut row = [0u16; 257];
+        mark_held(live, n, t, &mut row);
+        let mut keys = [0u32; 129];
+        let m = list_fits(&row, q.width, q.w, &mut keys);
         let mut after: u32 = 0;
         'tries: loop {
-            let key = next_fit(&row, width, w, after);
+            let key = next_key(&keys, m, after);
             if key == NONE {
                 break 'tries;
             }
             let column = key % 512;
-            if meets_any(start, finish, left, past, count, width, column, w, t, e) {
+            if meets_any(live, count, n, q.width, column, q.w, t, q.e) {
                 after = key;
             } else {
                 break 'visits Found::At { column, start: t };
             }
         }
-        let next = held::next_finish(finish, count, t);
+        let next = live::next_finish(live, n);
         if last < next {
             break 'visits Found::Nothing;
         }
         t = next;
+        n = live::after(live, n, t);
     }
 }

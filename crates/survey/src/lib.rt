@@ -1,44 +1,64 @@
-// One pass over the 64 slots of a board: the live tasks taken apart into arrays of numbers.
+// One pass over the 64 slots of a board: whether each by itself is sound, and the live tasks in a table, in slot order.
+ghost use mathlib.Core.Path.{_≡_};
+ghost use mathlib.Core.Bool.{_&&_, _||_};
+ghost use Prim.Native.Nat.{ℕ, _<_};
+ghost use lib.Dec.{eqb};
+ghost use lib.ListN.{length};
+ghost use Rattle.words.specs.Words.{bit};
 ghost use Rattle.tasks.specs.declared.Task.{Task};
-ghost use Rattle.slots.specs.Survey.{Surveyed};
-use slots::Findings;
+ghost use Rattle.survey.specs.Survey.{Surveyed};
+use live::Live;
 use tasks::Task;
 
-// The survey of the slots. Each slot is stored at `count`, and `count` goes past it only where it is live: no branch to miss.
-pub fn survey(columns: u16, rows: u16, now: u32, tasks: [Task; 64]) -> Findings
-    ensures { λ r. ⌜ Surveyed columns rows now tasks r ⌝ }
+// How many live tasks there are, which slots are theirs, and whether the slots are sound.
+pub struct Findings {
+    pub count: usize,
+    pub used: u64,
+    pub sound: bool,
+}
+
+// The slots in use, slot i too where it is live.
+fn used_with(used: u64, i: u32, on: bool) -> u64
+    requires { ⌜ i < 64 ⌝ }
+    ensures { λ r. ⌜ ((j : ℕ) → j < 64 → bit r j ≡ (bit used j || (on && eqb j i))) ⌝ }
 {
-    let mut id = [0u32; 64];
-    let mut start = [0u32; 64];
-    let mut finish = [0u32; 64];
-    let mut left = [0u32; 64];
-    let mut past = [0u32; 64];
+    if on {
+        return live::with_slot(used, i);
+    }
+    used
+}
+
+// The survey of the slots. Each slot is put at `count`, and `count` goes past it only where it is live: no branch to miss.
+pub fn survey(columns: u16, rows: u16, clock: u32, tasks: [Task; 64], live: &mut Live) -> Findings
+    requires { ⌜ length (now live) ≡ 384 ⌝ }
+    ensures { λ r. ⌜ Surveyed columns rows clock tasks (now (live .exit)) r ⌝ }
+{
     let mut count: usize = 0;
-    let mut free: usize = 64;
+    let mut used: u64 = 0;
     let mut sound = true;
     let mut i: usize = 0;
     while i < 64 {
         let k = tasks[i];
-        let well = slots::slot_sound(columns, rows, now, k);
-        let live = tasks::is_live(k);
+        let well = slots::slot_sound(columns, rows, clock, k);
+        let on = tasks::is_live(k);
         sound = sound & well;
-        id[count] = k.id;
-        start[count] = k.start;
-        finish[count] = ((k.start as u64 + k.e as u64) % 4_294_967_296) as u32;
-        left[count] = k.column as u32;
-        past[count] = k.column as u32 + k.w as u32;
-        count += slots::one_if(live);
-        free = slots::lowest(free, i, live);
+        live::put(
+            live,
+            count,
+            k.start,
+            ((k.start as u64 + k.e as u64) % 4_294_967_296) as u32,
+            k.column as u32,
+            k.column as u32 + k.w as u32,
+            k.id,
+            i as u32,
+        );
+        count += slots::one_if(on);
+        used = used_with(used, i as u32, on);
         i += 1;
     }
     Findings {
-        id: id,
-        start: start,
-        finish: finish,
-        left: left,
-        past: past,
         count: count,
-        free: free,
+        used: used,
         sound: sound,
     }
 }

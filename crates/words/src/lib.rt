@@ -62,7 +62,7 @@ pub fn count(words: [u64; 4]) -> u32
 }
 
 // The least digit from `from` on that is set, or 64.
-fn next_in(word: u64, from: u32) -> u32
+pub fn next_in(word: u64, from: u32) -> u32
     requires { ⌜ from < 64 ⌝ }
     ensures { λ r. ⌜ Least (bit word) from 64 r ⌝ }
 {
@@ -92,7 +92,7 @@ pub fn next_set(words: [u64; 4], from: u32) -> u32
 }
 
 // Each column the other way round.
-fn inverted(words: [u64; 4]) -> [u64; 4]
+pub fn inverted(words: [u64; 4]) -> [u64; 4]
     ensures { λ r. ⌜ ((c : ℕ) → 1 ≤ c → c ≤ 256 → column r c ≡ not (column words c)) ⌝ }
 {
     [!words[0], !words[1], !words[2], !words[3]]

@@ -12,7 +12,7 @@ count-requires : tie.Need-count-requires
 count-requires c κs = search needs
 
 returns : tie.Need-returns
-returns c = c .count .ensures ∙ ones-busy _ _ _ _ _ (c .before .before .pre) (record { same = c .before .held .ensures })
+returns c = c .count .ensures ∙ ones-busy _ _ (c .before .before .pre) (record { same = c .before .held .ensures })
 
 pub busy-spec : {M : Type 1} → statement M
 busy-spec = tie.close (tie.spec held-requires count-requires returns)

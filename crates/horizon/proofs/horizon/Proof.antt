@@ -4,7 +4,8 @@ use mathlib.Core.Path.{refl}
 use native.Mathlib.Omega.{arith}
 use borrow.Author.Needs.{needs}
 use Rattle.planners.specs.Planners.{release}
-use Rattle.planners.specs.Lent.{tasksOf, asked}
+use Rattle.live.specs.Live.{tasksOf}
+use Rattle.planners.specs.Lent.{wanted}
 use Rattle.releases.specs.Steps.{Pressed}
 use Rattle.releases.proofs.Pressing.{press-release}
 use Rattle.planners.proofs.Walk.{visits-start}
@@ -13,14 +14,14 @@ use Rattle.horizon.proofs.horizon.Statement.{statement}
 use Rattle.horizon.proofs.horizon.Tie as tie
 
 abbrev Inv-walk : tie.InvT-walk
-Inv-walk start finish left past count width clock w e d ends at n last t₀ t =
-    Pressed (release clock (tasksOf count start finish left past)) width ends at n × Releases width clock (tasksOf count start finish left past) (asked w e d) t
+Inv-walk live count q ends at n last t₀ t =
+    Pressed (release (q .clock) (tasksOf count live)) (q .width) ends at n × Releases (q .width) (q .clock) (tasksOf count live) (wanted q) t
 
 abbrev μ-walk : tie.MeasureT-walk
-μ-walk start finish left past count width clock w e d ends at n last t₀ t = d - e - t
+μ-walk live count q ends at n last t₀ t = q .d - q .e - t
 
 releases-requires : tie.Need-releases-requires Inv-walk μ-walk
-releases-requires c κs = c .pre .0
+releases-requires c κs = (c .pre .0, c .pre .1)
 
 steps-requires : tie.Need-steps-requires Inv-walk μ-walk
 steps-requires c κs = (refl, refl, omega arith, omega (arith, c .before .before .before .before .pre .0 .wide))
@@ -30,8 +31,8 @@ sub-last c = search needs
 
 walk-holds : tie.Need-walk-holds Inv-walk μ-walk
 walk-holds c =
-    let s = c .before .before .before .before .before in
-    (press-release (c .before .before .before .before .releases .result) _ (s .pre .0 .wide) (c .before .before .before .before .releases .ensures) (c .steps .ensures), visits-start _ _ _ _ _ _)
+    let r = c .before .before .before .before .before in
+    (press-release (r .releases .result) _ (r .before .pre .0 .wide) (r .releases .ensures) (c .before .steps .ensures), visits-start _ _ _ _ _ _)
 
 look-requires : tie.Need-look-requires Inv-walk μ-walk
 look-requires c κs = (omega arith, c .before .before .walk .inv .0 .steps)
@@ -40,28 +41,28 @@ walk-less : tie.Need-walk-less Inv-walk μ-walk
 walk-less c =
     let k = c .before .before .before .before in
     let v = k .before .before .before .walk .inv in
-    let s = k .before .before .before .before .before .before .before .before .before .pre in
+    let s = k .before .before .before .before .before .before .before .before .before .before .pre in
     omega (arith, release-on _ _ _ _ (s .0 .wide) (k .look .ensures _ _ (v .0)) (v .1) (c .before .before .if1 .left) (c .if2 .left) (omega arith) (omega arith) .0)
 
 walk-again : tie.Need-walk-again Inv-walk μ-walk
 walk-again c =
     let k = c .before .before .before .before in
     let v = k .before .before .before .walk .inv in
-    let s = k .before .before .before .before .before .before .before .before .before .pre in
+    let s = k .before .before .before .before .before .before .before .before .before .before .pre in
     (v .0, release-on _ _ _ _ (s .0 .wide) (k .look .ensures _ _ (v .0)) (v .1) (c .before .before .if1 .left) (c .if2 .left) (omega arith) (omega arith) .1)
 
 returns : tie.Need-returns Inv-walk μ-walk
 returns c =
     let k = c .before .before .before in
     let v = k .before .before .before .walk .inv in
-    let s = k .before .before .before .before .before .before .before .before .before .pre in
+    let s = k .before .before .before .before .before .before .before .before .before .before .pre in
     release-hit _ _ _ _ (s .0 .wide) (k .look .ensures _ _ (v .0)) (v .1) (c .before .if1 .taken)
 
 returns-2 : tie.Need-returns-2 Inv-walk μ-walk
 returns-2 c =
     let k = c .before .before .before .before in
     let v = k .before .before .before .walk .inv in
-    let s = k .before .before .before .before .before .before .before .before .before .pre in
+    let s = k .before .before .before .before .before .before .before .before .before .before .pre in
     release-none _ _ _ _ (s .0 .wide) (k .look .ensures _ _ (v .0)) (v .1) (c .before .before .if1 .left) (c .if2 .taken)
 
 pub horizon-spec : {M : Type 1} → statement M

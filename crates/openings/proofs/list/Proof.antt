@@ -5,18 +5,18 @@ use native.Mathlib.Omega.{arith}
 use lib.ListN.{length}
 use Rattle.held.proofs.Free.{run-end}
 use Rattle.openings.proofs.Writing.{same-room}
-use Rattle.openings.proofs.Listing.{At, further, later-tick, next-later, list-late, list-begin, list-run, list-full, list-done, list-next, list-fresh}
+use Rattle.openings.proofs.Listing.{At, further, later-tick, next-later, list-late, list-begin, list-live, list-run, list-full, list-done, list-next, list-after, list-fresh}
 use borrow.Author.Needs.{needs}
 use Rattle.openings.proofs.list.Statement.{statement}
 use Rattle.openings.proofs.list.Tie as tie
 
 abbrev Inv-walk : tie.InvT-walk
-Inv-walk start finish left past count width clock w e d s c buffer₀ last t₀ column₀ masks edge words₀ until₀ room n₀ buffer t column words until n =
-    (room ≡ length buffer₀ / 2) × At width clock count start finish left past w e d s c buffer₀ t column words until buffer n
+Inv-walk live masks count q s c buffer₀ last t₀ column₀ edge live-now₀ words₀ until₀ room n₀ buffer t column live-now words until n =
+    (room ≡ length buffer₀ / 2) × At q count live s c buffer₀ t column live-now words until buffer n
 
 abbrev μ-walk : tie.MeasureT-walk
-μ-walk start finish left past count width clock w e d s c buffer₀ last t₀ column₀ masks edge words₀ until₀ room n₀ buffer t column words until n =
-    (d - t) * 257 + (256 - column)
+μ-walk live masks count q s c buffer₀ last t₀ column₀ edge live-now₀ words₀ until₀ room n₀ buffer t column live-now words until n =
+    (q .d - t) * 257 + (256 - column)
 
 sub-last : tie.Need-sub-last Inv-walk μ-walk
 sub-last c = search needs
@@ -31,16 +31,14 @@ returns : tie.Need-returns Inv-walk μ-walk
 returns c =
     let column = c .before in
     let tick = column .before in
-    let st = tick .before .before in
-    let a = st .args in
-    let o = st .pre .0 in
-    list-late (a .width) (a .clock) (a .count) (a .start .now) (a .finish .now) (a .left .now) (a .past .now) (a .w) (a .e) (a .d) (a .s) (a .c) (a .buffer .now) o (omega arith) (omega arith) (tick .from-tick .ensures) (column .from-column .ensures) (omega arith) (omega arith)
-
-masks-requires : tie.Need-masks-requires Inv-walk μ-walk
-masks-requires c κs = search needs
+    let st = tick .before .before .before in
+    list-late _ _ _ _ _ _ (st .pre .0 .device) (st .pre .1) (tick .from-tick .ensures, column .from-column .ensures) (omega arith)
 
 edge-requires : tie.Need-edge-requires Inv-walk μ-walk
 edge-requires c κs = search needs
+
+after-requires : tie.Need-after-requires Inv-walk μ-walk
+after-requires c κs = search needs
 
 held-words-requires : tie.Need-held-words-requires Inv-walk μ-walk
 held-words-requires c κs = search needs
@@ -51,14 +49,15 @@ next-change-requires c κs = search needs
 walk-holds : tie.Need-walk-holds Inv-walk μ-walk
 walk-holds c =
     let words = c .before in
-    let masks = words .before .before .before in
-    let column = masks .before .before in
+    let after = words .before in
+    let column = after .before .before .before in
     let tick = column .before in
-    let st = tick .before .before in
+    let st = tick .before .before .before in
     let a = st .args in
-    let o = st .pre .0 in
-    let h = words .held-words .ensures (a .left .now) (a .past .now) o (masks .masks .ensures) in
-    (refl, list-begin (a .width) (a .clock) (a .count) (a .start .now) (a .finish .now) (a .left .now) (a .past .now) (a .w) (a .e) (a .d) (a .s) (a .c) (a .buffer .now) o (omega arith) (omega arith) (tick .from-tick .ensures) (column .from-column .ensures) (omega arith) _ _ h (c .next-change .ensures))
+    let f = after .after .ensures in
+    let h = words .held-words .ensures (a .count) (st .pre .0) f in
+    let u = c .next-change .ensures (a .count) (st .pre .0 .falling) f in
+    (refl, list-begin _ _ _ _ _ _ (st .pre .0 .device) (st .pre .1) (tick .from-tick .ensures, column .from-column .ensures) (omega arith) _ _ h f u)
 
 first-free-requires : tie.Need-first-free-requires Inv-walk μ-walk
 first-free-requires c κs = search needs
@@ -70,7 +69,7 @@ next-set-requires c κs =
 
 sub-stop : tie.Need-sub-stop Inv-walk μ-walk
 sub-stop c =
-    let n = c in
+    let n = c .before in
     let g = n .before .before .before .first-free .ensures in
     let e = run-end g (omega arith) (n .next-set .ensures) in
     omega (arith, e)
@@ -83,19 +82,20 @@ sub-stop-2 c = search needs
 
 stop-requires : tie.Need-stop-requires Inv-walk μ-walk
 stop-requires c κs =
-    let n = c in
+    let n = c .before in
     let g = n .before .before .before .first-free .ensures in
     let e = run-end g (omega arith) (n .next-set .ensures) in
     omega (arith, e)
 
 mul-put-run : tie.Need-mul-put-run Inv-walk μ-walk
 mul-put-run c =
-    let at = c .before .before .before .before .before .before in
-    omega (arith, at .walk .inv .0, at .before .before .before .before .before .before .before .before .before .before .good .1 .1 .1 .1 .1 .1 .1 .1 .1 .1 .1 .1 .0 .1)
+    let at = c .before .before .before .before .before .before .before in
+    let st = at .before .before .before .before .before .before .before .before .before .before in
+    omega (arith, at .walk .inv .0, st .good .1 .1 .1 .1 .1 .1 .0 .1)
 
 put-run-requires : tie.Need-put-run-requires Inv-walk μ-walk
 put-run-requires c κs =
-    let n = c .before .before in
+    let n = c .before .before .before in
     let first = n .before .before .before in
     let at = first .before in
     let g = first .first-free .ensures in
@@ -110,133 +110,132 @@ cast-n c = search needs
 
 add-n : tie.Need-add-n Inv-walk μ-walk
 add-n c =
-    let n = c .before .before .before .before .before in
+    let n = c .before .before .before .before .before .before in
     let first = n .before .before .before in
     let at = first .before in
     let g = first .first-free .ensures in
     let e = run-end g (omega arith) (n .next-set .ensures) in
     let to = c .before .before .before .before .stop .ensures in
-    omega (arith, to, at .walk .inv .0, at .before .before .before .before .before .before .before .before .before .before .good .1 .1 .1 .1 .1 .1 .1 .1 .1 .1 .1 .1 .0 .1)
+    let st = at .before .before .before .before .before .before .before .before .before .before in
+    omega (arith, to, at .walk .inv .0, st .good .1 .1 .1 .1 .1 .1 .0 .1)
 
 sub-column : tie.Need-sub-column Inv-walk μ-walk
 sub-column c = search needs
 
 walk-less : tie.Need-walk-less Inv-walk μ-walk
 walk-less c =
-    let n = c .before .before .before .before .before in
+    let n = c .before .before .before .before .before .before in
     let first = n .before .before .before in
     let at = first .before in
     let g = first .first-free .ensures in
     let e = run-end g (omega arith) (n .next-set .ensures) in
     let to = c .before .before .before .before .stop .ensures in
-    let w = at .before .before .before .before .before .before .before .before .before .before .pre .1 .0 in
+    let w = at .before .before .before .before .before .before .before .before .before .before .pre .1 .wide in
     further _ _ _ _ (omega (arith, to, g .after (omega arith))) (omega (arith, to, e, n .next-set .ensures .high, w))
 
 walk-again : tie.Need-walk-again Inv-walk μ-walk
 walk-again c =
-    let n = c .before .before .before .before .before in
+    let n = c .before .before .before .before .before .before in
     let first = n .before .before .before in
     let at = first .before in
     let g = first .first-free .ensures in
     let e = run-end g (omega arith) (n .next-set .ensures) in
-    let words = at .before .before in
-    let masks = words .before .before .before in
-    let st = masks .before .before .before .before .before in
-    let a = st .args in
-    let o = st .pre .0 in
-    let to = c .before .before .before .before .stop .ensures in
-    (at .walk .inv .0, list-run (a .width) (a .clock) (a .count) (a .start .now) (a .finish .now) (a .left .now) (a .past .now) (a .w) (a .e) (a .d) (a .s) (a .c) (a .buffer .now) o (omega arith) (omega arith) (at .walk .inv .1) g (omega arith) (n .next-set .ensures) (omega (arith, to)) (omega (arith, to)) (c .before .before .put-run .ensures) refl (omega (arith, to, at .walk .inv .0)))
+    let st = at .before .before .before .before .before .before .before .before .before .before in
+    let to = c .before .before .before .before .stop .ensures in (
+      at .walk .inv .0,
+      list-run _ _ _ _ _ _ (st .pre .0 .device) (st .pre .1) (at .walk .inv .1) g (omega arith) (n .next-set .ensures) (omega (arith, to)) (omega (arith, to))
+          (c .before .before .put-run .ensures) refl (omega (arith, to, at .walk .inv .0)),
+    )
 
 next-tick-requires : tie.Need-next-tick-requires Inv-walk μ-walk
 next-tick-requires c κs = search needs
 
+after-requires-2 : tie.Need-after-requires-2 Inv-walk μ-walk
+after-requires-2 c κs = search needs
+
 held-words-requires-2 : tie.Need-held-words-requires-2 Inv-walk μ-walk
 held-words-requires-2 c κs =
-    let tick = c .before .before .before in
-    let at = tick .before .before .before in
-    let words = at .before .before in
-    let masks = words .before .before .before in
-    let st = masks .before .before .before .before .before in
-    let a = st .args in
-    let o = st .pre .0 in
-    (o .few, o .wide, omega arith, omega (arith, c .before .before .if4 .left), words .before .before .edge .ensures)
+    let at = c .before .before .before .before .before .before in
+    let edge = at .before .before .before .before in
+    let st = edge .before .before .before .before .before .before in
+    (omega (arith, c .after2 .ensures .few), st .pre .0 .device .wide, st .pre .1 .long, omega (arith, st .pre .1 .until, c .before .before .if4 .left), edge .edge .ensures)
 
 next-change-requires-2 : tie.Need-next-change-requires-2 Inv-walk μ-walk
 next-change-requires-2 c κs =
-    let tick = c .before .before .before .before in
-    let at = tick .before .before .before in
-    let words = at .before .before in
-    let masks = words .before .before .before in
-    let st = masks .before .before .before .before .before in
-    let a = st .args in
-    let o = st .pre .0 in
-    (o .few, omega arith, omega (arith, c .before .before .before .if4 .left))
+    let at = c .before .before .before .before .before .before .before in
+    let st = at .before .before .before .before .before .before .before .before .before .before in
+    (omega (arith, c .before .after2 .ensures .few), st .pre .1 .long, omega (arith, st .pre .1 .until, c .before .before .before .if4 .left))
 
 walk-less-2 : tie.Need-walk-less-2 Inv-walk μ-walk
 walk-less-2 c =
     let tick = c .before .before .before .before .before in
-    later-tick _ _ _ _ (next-later (tick .next-tick .ensures)) (omega arith)
+    let at = tick .before .before .before in
+    let st = at .before .before .before .before .before .before .before .before .before .before in
+    let a = st .args in
+    let f = list-live _ _ _ _ _ _ (st .pre .0 .device) (st .pre .1) (at .walk .inv .1) in
+    later-tick _ _ _ _ (next-later (tick .next-tick .ensures (a .count) (st .pre .0 .falling) f)) (omega arith)
 
 walk-again-2 : tie.Need-walk-again-2 Inv-walk μ-walk
 walk-again-2 c =
     let tick = c .before .before .before .before .before in
     let first = tick .before .before in
     let at = first .before in
-    let words = at .before .before in
-    let masks = words .before .before .before in
-    let st = masks .before .before .before .before .before in
+    let st = at .before .before .before .before .before .before .before .before .before .before in
     let a = st .args in
-    let o = st .pre .0 in
-    let h = c .before .held-words2 .ensures (a .left .now) (a .past .now) o (masks .masks .ensures) in
-    (at .walk .inv .0, list-fresh (a .width) (a .clock) (a .count) (a .start .now) (a .finish .now) (a .left .now) (a .past .now) (a .w) (a .e) (a .d) (a .s) (a .c) (a .buffer .now) o (omega arith) (omega arith) (at .walk .inv .1) (first .first-free .ensures) (omega arith) (tick .next-tick .ensures) (omega (arith, c .before .before .before .before .if4 .left, st .pre .1 .3)) _ _ h (c .next-change2 .ensures))
+    let m = at .walk .inv .1 in
+    let f = list-live _ _ _ _ _ _ (st .pre .0 .device) (st .pre .1) m in
+    let u = tick .next-tick .ensures (a .count) (st .pre .0 .falling) f in
+    let g = first .first-free .ensures in
+    let k = list-after _ _ _ _ _ _ (st .pre .0 .device) (st .pre .1) m g u (c .before .before .after2 .ensures) in
+    let h = c .before .held-words2 .ensures (a .count) (st .pre .0) k in
+    let v = c .next-change2 .ensures (a .count) (st .pre .0 .falling) k in
+    (at .walk .inv .0, list-fresh _ _ _ _ _ _ (st .pre .0 .device) (st .pre .1) m g (omega arith) u (omega (arith, st .pre .1 .in-time, c .before .before .before .before .if4 .left)) k _ _ h v)
 
 walk-less-3 : tie.Need-walk-less-3 Inv-walk μ-walk
 walk-less-3 c =
     let tick = c .before .before in
-    later-tick _ _ _ _ (next-later (tick .next-tick .ensures)) (omega arith)
+    let at = tick .before .before .before in
+    let st = at .before .before .before .before .before .before .before .before .before .before in
+    let a = st .args in
+    let f = list-live _ _ _ _ _ _ (st .pre .0 .device) (st .pre .1) (at .walk .inv .1) in
+    later-tick _ _ _ _ (next-later (tick .next-tick .ensures (a .count) (st .pre .0 .falling) f)) (omega arith)
 
 walk-again-3 : tie.Need-walk-again-3 Inv-walk μ-walk
 walk-again-3 c =
     let tick = c .before .before in
     let first = tick .before .before in
     let at = first .before in
-    let words = at .before .before in
-    let masks = words .before .before .before in
-    let st = masks .before .before .before .before .before in
+    let st = at .before .before .before .before .before .before .before .before .before .before in
     let a = st .args in
-    let o = st .pre .0 in
-    (at .walk .inv .0, list-next (a .width) (a .clock) (a .count) (a .start .now) (a .finish .now) (a .left .now) (a .past .now) (a .w) (a .e) (a .d) (a .s) (a .c) (a .buffer .now) o (omega arith) (omega arith) (at .walk .inv .1) (first .first-free .ensures) (omega arith) (tick .next-tick .ensures) (omega arith) (omega arith))
+    let m = at .walk .inv .1 in
+    let f = list-live _ _ _ _ _ _ (st .pre .0 .device) (st .pre .1) m in
+    let u = tick .next-tick .ensures (a .count) (st .pre .0 .falling) f in
+    (at .walk .inv .0, list-next _ _ _ _ _ _ (st .pre .0 .device) (st .pre .1) m (first .first-free .ensures) (omega arith) u (omega (arith, st .pre .1 .in-time)) (omega arith))
 
 same-length : tie.Need-same-length Inv-walk μ-walk
-same-length c =
-    same-room (c .before .before .before .walk .inv .1 .written)
+same-length c = same-room (c .before .before .before .walk .inv .1 .written)
 
 returns-2 : tie.Need-returns-2 Inv-walk μ-walk
 returns-2 c =
     let first = c .before .before in
     let at = first .before in
-    let words = at .before .before in
-    let masks = words .before .before .before in
-    let st = masks .before .before .before .before .before in
-    let a = st .args in
-    let o = st .pre .0 in
-    list-full (a .width) (a .clock) (a .count) (a .start .now) (a .finish .now) (a .left .now) (a .past .now) (a .w) (a .e) (a .d) (a .s) (a .c) (a .buffer .now) o (omega arith) (omega arith) (at .walk .inv .1) (first .first-free .ensures) (omega arith) (omega (arith, at .walk .inv .0))
+    let st = at .before .before .before .before .before .before .before .before .before .before in
+    list-full _ _ _ _ _ _ (st .pre .0 .device) (st .pre .1) (at .walk .inv .1) (first .first-free .ensures) (omega arith) (omega (arith, at .walk .inv .0))
 
 same-length-2 : tie.Need-same-length-2 Inv-walk μ-walk
-same-length-2 c =
-    same-room (c .before .before .before .before .walk .inv .1 .written)
+same-length-2 c = same-room (c .before .before .before .before .walk .inv .1 .written)
 
 returns-3 : tie.Need-returns-3 Inv-walk μ-walk
 returns-3 c =
     let tick = c .before in
     let first = tick .before .before in
     let at = first .before in
-    let words = at .before .before in
-    let masks = words .before .before .before in
-    let st = masks .before .before .before .before .before in
+    let st = at .before .before .before .before .before .before .before .before .before .before in
     let a = st .args in
-    let o = st .pre .0 in
-    list-done (a .width) (a .clock) (a .count) (a .start .now) (a .finish .now) (a .left .now) (a .past .now) (a .w) (a .e) (a .d) (a .s) (a .c) (a .buffer .now) o (omega arith) (omega arith) (at .walk .inv .1) (first .first-free .ensures) (omega arith) (tick .next-tick .ensures) (omega arith) (omega arith)
+    let m = at .walk .inv .1 in
+    let f = list-live _ _ _ _ _ _ (st .pre .0 .device) (st .pre .1) m in
+    let u = tick .next-tick .ensures (a .count) (st .pre .0 .falling) f in
+    list-done _ _ _ _ _ _ (st .pre .0 .device) (st .pre .1) m (first .first-free .ensures) (omega arith) u (omega arith)
 
 pub list-spec : {M : Type 1} → statement M
 list-spec =
@@ -248,8 +247,8 @@ list-spec =
     from-tick-requires
     from-column-requires
     returns
-    masks-requires
     edge-requires
+    after-requires
     held-words-requires
     next-change-requires
     walk-holds
@@ -268,6 +267,7 @@ list-spec =
     walk-less
     walk-again
     next-tick-requires
+    after-requires-2
     held-words-requires-2
     next-change-requires-2
     walk-less-2

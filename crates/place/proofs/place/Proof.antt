@@ -16,15 +16,18 @@ is-three (suc (suc zero)) h a b c = absurd (c refl)
 is-three (suc (suc (suc zero))) h a b c = refl
 is-three (suc (suc (suc (suc n)))) h a b c = absurd (omega arith)
 
-add-stuffing : tie.Need-add-stuffing
-add-stuffing c = search needs
+add-t7 : tie.Need-add-t7
+add-t7 c = search needs
 
-stuffing-requires : tie.Need-stuffing-requires
-stuffing-requires c κs = search needs
+search-requires : tie.Need-search-requires
+search-requires c κs =
+    let s = c .before .before in
+    let l = s .pre .1 in
+    (record { device = l .device; falling = l .falling; apart = l .apart; masked = l .masked (λ e. omega (arith, c .before .if1 .taken)) (λ e. omega (arith, c .before .if1 .taken)) }, search needs)
 
 returns : tie.Need-returns
 unfolding planned
-returns c = rw (c .before .if1 .taken) (c .stuffing .ensures ∙ ap foundOf (sym (reference-is _ _ _ _ _ (c .before .before .args .d))))
+returns c = rw (c .before .before .if1 .taken) (c .search .ensures ∙ ap foundOf (sym (reference-is _ _ _ _ _ (c .before .before .before .args .q .d))))
 
 horizon-requires : tie.Need-horizon-requires
 horizon-requires c κs = search needs
@@ -33,33 +36,36 @@ returns-2 : tie.Need-returns-2
 unfolding planned
 returns-2 c = rw (c .before .if2 .taken) (c .horizon .ensures)
 
-stuffing-requires-2 : tie.Need-stuffing-requires-2
-stuffing-requires-2 c κs = search needs
+stuffing-requires : tie.Need-stuffing-requires
+stuffing-requires c κs = search needs
 
 returns-3 : tie.Need-returns-3
 unfolding planned
-returns-3 c = rw (c .before .if3 .taken) (c .stuffing2 .ensures)
+returns-3 c = rw (c .before .if3 .taken) (c .stuffing .ensures)
 
-full-requires : tie.Need-full-requires
-full-requires c κs = search needs
+search-requires-2 : tie.Need-search-requires-2
+search-requires-2 c κs =
+    let s = c .before .before .before in
+    let l = s .pre .1 in
+    (record { device = l .device; falling = l .falling; apart = l .apart; masked = l .masked (c .before .if2 .left) (c .if3 .left) }, s .pre .2)
 
 returns-4 : tie.Need-returns-4
 unfolding planned
 returns-4 c =
     let e = c .before in
     let s = e .before .before .before in
-    rw (is-three (s .args .planner) (s .pre .1 .0) (e .before .before .if1 .left) (e .before .if2 .left) (e .if3 .left)) (c .full .ensures)
+    rw (is-three (s .args .planner) (s .pre .0) (e .before .before .if1 .left) (e .before .if2 .left) (e .if3 .left)) (c .search2 .ensures)
 
 pub place-spec : {M : Type 1} → statement M
 place-spec =
     tie.close
     (tie.spec
-    add-stuffing
-    stuffing-requires
+    add-t7
+    search-requires
     returns
     horizon-requires
     returns-2
-    stuffing-requires-2
+    stuffing-requires
     returns-3
-    full-requires
+    search-requires-2
     returns-4)

@@ -47,11 +47,11 @@ returns-6 c = rw (le-ltb 3 (c .before .before .before .before .before .before .b
 
 returns-7 : tie.Need-returns-7
 unfolding refusal
-returns-7 c = rw (le-ltb 3 (c .before .before .before .before .before .before .before .before .before .before .before .before .args .planner) (c .before .before .before .before .before .before .before .before .before .before .before .if1 .left), ne-eqb (c .before .before .before .before .before .before .before .before .before .before .before .before .args .a .id) 0 (c .before .before .before .before .before .before .before .before .before .if2 .left), ← c .before .before .before .before .before .before .before .before .size-fits .ensures, c .before .before .before .before .before .before .before .if3 .left, ← c .before .before .before .before .before .before .time-fits .ensures, c .before .before .before .before .before .if4 .left, c .before .before .before .before .if5 .left, le-ltb (c .before .before .before .before .before .before .before .before .before .before .before .before .args .a .d) (c .before .before .before .before .before .before .before .before .before .before .before .before .args .clock + c .before .before .before .before .before .before .before .before .before .before .before .before .args .a .e) (c .before .if6 .left), le-leb 64 (c .before .before .before .before .before .before .before .before .before .before .before .before .args .count) (c .if7 .taken))
+returns-7 c = rw (le-ltb 3 (c .before .before .before .before .before .before .before .before .before .before .before .before .args .planner) (c .before .before .before .before .before .before .before .before .before .before .before .if1 .left), ne-eqb (c .before .before .before .before .before .before .before .before .before .before .before .before .args .a .id) 0 (c .before .before .before .before .before .before .before .before .before .if2 .left), ← c .before .before .before .before .before .before .before .before .size-fits .ensures, c .before .before .before .before .before .before .before .if3 .left, ← c .before .before .before .before .before .before .time-fits .ensures, c .before .before .before .before .before .if4 .left, c .before .before .before .before .if5 .left, le-ltb (c .before .before .before .before .before .before .before .before .before .before .before .before .args .a .d) (c .before .before .before .before .before .before .before .before .before .before .before .before .args .clock + c .before .before .before .before .before .before .before .before .before .before .before .before .args .a .e) (c .before .if6 .left), le-leb 64 (c .before .before .before .before .before .before .before .before .before .before .before .before .args .free) (c .if7 .taken))
 
 returns-8 : tie.Need-returns-8
 unfolding refusal
-returns-8 c = rw (le-ltb 3 (c .before .before .before .before .before .before .before .before .before .before .before .before .args .planner) (c .before .before .before .before .before .before .before .before .before .before .before .if1 .left), ne-eqb (c .before .before .before .before .before .before .before .before .before .before .before .before .args .a .id) 0 (c .before .before .before .before .before .before .before .before .before .if2 .left), ← c .before .before .before .before .before .before .before .before .size-fits .ensures, c .before .before .before .before .before .before .before .if3 .left, ← c .before .before .before .before .before .before .time-fits .ensures, c .before .before .before .before .before .if4 .left, c .before .before .before .before .if5 .left, le-ltb (c .before .before .before .before .before .before .before .before .before .before .before .before .args .a .d) (c .before .before .before .before .before .before .before .before .before .before .before .before .args .clock + c .before .before .before .before .before .before .before .before .before .before .before .before .args .a .e) (c .before .if6 .left), lt-leb 64 (c .before .before .before .before .before .before .before .before .before .before .before .before .args .count) (c .if7 .left))
+returns-8 c = rw (le-ltb 3 (c .before .before .before .before .before .before .before .before .before .before .before .before .args .planner) (c .before .before .before .before .before .before .before .before .before .before .before .if1 .left), ne-eqb (c .before .before .before .before .before .before .before .before .before .before .before .before .args .a .id) 0 (c .before .before .before .before .before .before .before .before .before .if2 .left), ← c .before .before .before .before .before .before .before .before .size-fits .ensures, c .before .before .before .before .before .before .before .if3 .left, ← c .before .before .before .before .before .before .time-fits .ensures, c .before .before .before .before .before .if4 .left, c .before .before .before .before .if5 .left, le-ltb (c .before .before .before .before .before .before .before .before .before .before .before .before .args .a .d) (c .before .before .before .before .before .before .before .before .before .before .before .before .args .clock + c .before .before .before .before .before .before .before .before .before .before .before .before .args .a .e) (c .before .if6 .left), lt-leb 64 (c .before .before .before .before .before .before .before .before .before .before .before .before .args .free) (c .if7 .left))
 
 pub refuse-spec : {M : Type 1} → statement M
 refuse-spec =

@@ -21,15 +21,6 @@ sub-end c = search needs
 loop-holds : tie.Need-loop-holds Inv-loop μ-loop
 loop-holds c = (omega arith, omega arith, raise-none _ _ _ (c .pre .0) (omega arith))
 
-mul-later : tie.Need-mul-later Inv-loop μ-loop
-mul-later c = search needs
-
-element-copy-out-later : tie.Need-element-copy-out-later Inv-loop μ-loop
-element-copy-out-later c = search needs
-
-later-requires : tie.Need-later-requires Inv-loop μ-loop
-later-requires c κs = search needs
-
 mul-row : tie.Need-mul-row Inv-loop μ-loop
 mul-row c = search needs
 
@@ -43,7 +34,7 @@ loop-less : tie.Need-loop-less Inv-loop μ-loop
 loop-less c = search needs
 
 loop-again : tie.Need-loop-again Inv-loop μ-loop
-loop-again c = (omega arith, omega arith, raise-one (c .before .before .before .loop .inv .2) (omega arith) (c .later .ensures))
+loop-again c = (omega arith, omega arith, raise-one (c .before .loop .inv .2) (omega arith))
 
 returns : tie.Need-returns Inv-loop μ-loop
 returns c = (c .before .loop .inv .2 .room, raise-all (c .before .loop .inv .2) (let z = c .before .loop .inv .0 in omega arith))
@@ -57,9 +48,6 @@ raise-spec =
     sub-k
     sub-end
     loop-holds
-    mul-later
-    element-copy-out-later
-    later-requires
     mul-row
     element-write-row
     add-k

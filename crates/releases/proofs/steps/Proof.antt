@@ -53,7 +53,9 @@ loop-less : tie.Need-loop-less Inv-loop μ-loop
 loop-less c = search needs
 
 loop-again : tie.Need-loop-again Inv-loop μ-loop
-loop-again c = ⊎-elim (λ w. rw (w .1) (press-new (c .before .before .before .loop .inv) (omega arith) (w .0 .taken))) (λ w. rw (w .1) (press-on (c .before .before .before .loop .inv) (omega arith) (w .0 .left))) (c .if1 .came)
+loop-again c =
+    let v = c .before .before .before .loop .inv in
+    ⊎-elim (λ w. rw (w .1) (press-new v (omega arith) (w .0 .taken))) (λ w. rw (w .1) (press-on v (omega arith) (w .0 .left))) (c .if1 .came)
 
 add-past-2 : tie.Need-add-past-2 Inv-loop μ-loop
 add-past-2 c = search needs

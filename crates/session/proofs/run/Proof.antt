@@ -1,38 +1,77 @@
 -- `session::run` meets its contract: what is left of the recording gives what is left to do. Assumes nothing.
-use Prim.Native.Nat.{_-_}
-use mathlib.Core.Path.{refl}
+use Prim.Native.Nat.{_+_, _-_, _*_, _≤_, _<_}
+use mathlib.Core.Path.{_≡_, refl}
+use mathlib.Core.List.{List}
 use native.Mathlib.Omega.{arith}
-use lib.ListN.{length-set, length-drop}
+use lib.ListN.{length, length-set, length-drop}
 use Rattle.board.specs.Untested.{boardOf}
 use Rattle.events.proofs.Calls.{taken-there}
-use Rattle.session.proofs.Running.{Running, changed-put, changed-all, changed-none, run-begin, same-room, run-stop, run-more, run-end}
+use Rattle.tasks.specs.declared.Task.{Task}
+use Rattle.steps.specs.Standing.{slotOf, changed}
+use Rattle.session.proofs.Running.{Running, changed-nothing, changed-booked, changed-freed, changed-cleared, run-begin, same-room, run-stop, run-more, run-end}
 use borrow.Author.Needs.{needs}
+use mir.Syntax.{w64}
+use mir.Val.{Fits}
 use Rattle.session.proofs.run.Statement.{statement}
 use Rattle.session.proofs.run.Tie as tie
 
 abbrev Inv-loop : tie.InvT-loop
-Inv-loop number bytes answers₀ tasks₀ id₀ start₀ finish₀ left₀ past₀ d₀ most turns₀ at₀ n₀ answers tasks id start finish left past d turns at n =
-    Running (boardOf tasks₀ (d₀ .clock) (d₀ .columns) (d₀ .rows)) number most bytes answers₀ answers tasks id start finish left past d turns at n
+Inv-loop number bytes answers₀ tasks₀ live₀ masks₀ d₀ most turns₀ at₀ n₀ answers tasks live masks d turns at n =
+    Running (boardOf tasks₀ (d₀ .clock) (d₀ .columns) (d₀ .rows)) number most bytes answers₀ answers tasks live masks d turns at n
 
 abbrev μ-loop : tie.MeasureT-loop
-μ-loop number bytes answers₀ tasks₀ id₀ start₀ finish₀ left₀ past₀ d₀ most turns₀ at₀ n₀ answers tasks id start finish left past d turns at n =
-    turns - n
+μ-loop number bytes answers₀ tasks₀ live₀ masks₀ d₀ most turns₀ at₀ n₀ answers tasks live masks d turns at n = turns - n
 
-apart-requires : tie.Need-apart-requires Inv-loop μ-loop
-apart-requires c κs = search needs
+-- a recording's length fits
+bytes-fit : (s : tie.Start Inv-loop μ-loop) → Fits w64 (length (s .args .bytes .now))
+bytes-fit s = search needs
 
-is-sound-requires : tie.Need-is-sound-requires Inv-loop μ-loop
-is-sound-requires c κs = search needs
+-- where the event is answered and its line put: the loop's turn
+abbrev Turn : Type 0
+Turn = tie.After-d Inv-loop μ-loop
+
+abbrev loopOf : Turn → tie.At-loop Inv-loop μ-loop
+loopOf m = m .before .before .before .before .before .before .before .before .before .before .before .before
+
+-- one event more, with the records that follow
+abbrev More : Turn → List Task → Type 0
+More m next =
+    let l = loopOf m in
+    let a = l .before .before .before .before .before .before .before .before .args in
+    let done = m .before .before .before .before .before .before .answered in
+    Running (boardOf (a .board .tasks) (a .board .now) (a .board .columns) (a .board .rows)) (a .number) (l .before .room .result) (a .bytes .now) (a .answers .now)
+    (m .before .before .before .put-line .last .0) next (done .last .0)
+    (done .last .1 .0) (done .result .device) (l .loop .turns) (l .loop .at + m .before .before .before .before .before .before .before .before .before .before .next .result .size)
+    (l .loop .n + 1)
+
+more : (m : Turn) (next : List Task) → next ≡ changed (m .before .before .before .before .before .before .answered .result .change) (loopOf m .loop .tasks) → length next ≡ 64 → More m next
+more m next c z =
+    run-more (loopOf m .loop .inv) (m .before .before .before .before .before .before .before .before .before .before .before .loop-test .taken)
+    (m .before .before .before .before .before .before .before .before .before .before .next .ensures)
+    (omega (arith, m .before .before .before .before .before .before .before .before .before .if1 .left))
+    (m .before .before .before .before .before .before .answered .ensures) (m .before .before .before .before .kind-of .ensures) (m .before .before .before .put-line .ensures) c z
+
+-- the slot that is changed is one of the 64
+inside : (m : Turn) → slotOf (m .before .before .before .before .before .before .answered .result .change) < 64
+inside m = let o = loopOf m .loop .inv in m .before .before .before .before .before .before .answered .ensures (o .slots) (o .keeps) .inside
+
+-- how many events there is room for
+room-left : (l : tie.At-loop Inv-loop μ-loop) → l .loop .n < l .loop .turns
+    → (l .loop .n * 6 + 6 ≤ length (l .before .before .before .before .before .before .before .before .args .answers .now)) ×
+    (l .before .before .before .before .before .before .before .before .args .number + l .loop .n + 1 ≤ 1000000000)
+room-left l h = let o = l .loop .inv in let m = l .before .room .ensures in (omega (arith, m, o .upto, o .bound), omega (arith, m, o .upto, o .bound))
+
+stand-requires : tie.Need-stand-requires Inv-loop μ-loop
+stand-requires c κs = search needs
 
 room-requires : tie.Need-room-requires Inv-loop μ-loop
 room-requires c κs = search needs
 
 loop-holds : tie.Need-loop-holds Inv-loop μ-loop
 loop-holds c =
-    let g = c .before in
-    let p = g .before .before .before .before .before .before in
-    let a = p .before .before .before .before .args in
-    run-begin (a .board .tasks) (a .board .now) (a .board .columns) (a .board .rows) (a .number) (c .room .result) (a .bytes .now) (a .answers .now) (g .is-sound .result) _ _ _ _ _ (g .is-sound .ensures) (p .apart .ensures .1) (p .apart .ensures .0)
+    let a = c .before .before .before .before .before .before .before .args in
+    run-begin (a .board .tasks) (a .board .now) (a .board .columns) (a .board .rows) (a .number) (c .room .result) (a .bytes .now)
+    (a .answers .now) _ _ (c .before .stand .result) (c .before .stand .ensures)
 
 next-requires : tie.Need-next-requires Inv-loop μ-loop
 next-requires c κs = search needs
@@ -49,102 +88,104 @@ loop-again c =
 
 answered-requires : tie.Need-answered-requires Inv-loop μ-loop
 answered-requires c κs =
-    let o = c .before .before .before .before .before .before .before .before .loop .inv in
-    record { tasks = o .slots; kept = o .kept }
+    let o = c .before .before .before .before .before .loop .inv in
+    record { tasks = o .slots; keeps = o .keeps }
 
 mul-put-line : tie.Need-mul-put-line Inv-loop μ-loop
-mul-put-line c =
-    let at = c .before .before .before .before .before .before .before .before .before .before in
-    let o = at .loop .inv in
-    let i = c .before .before .before .before .before .before .before .before .before .loop-test .taken in
-    let m = at .before .room .ensures in
-    omega (arith, i, m, o .upto, o .bound, at .before .before .before .before .before .before .before .before .before .before .before .before .good .1 .1 .1 .0 .1)
+mul-put-line c = omega (arith, room-left (c .before .before .before .before .before .before .before) (c .before .before .before .before .before .before .loop-test .taken) .1)
 
 cast-put-line : tie.Need-cast-put-line Inv-loop μ-loop
-cast-put-line c =
-    let at = c .before .before .before .before .before .before .before .before .before .before in
-    let o = at .loop .inv in
-    let i = c .before .before .before .before .before .before .before .before .before .loop-test .taken in
-    let m = at .before .room .ensures in
-    omega (arith, i, m, o .upto, o .bound, at .before .before .before .before .before .before .before .before .before .before .before .before .good .1 .1 .1 .0 .1)
+cast-put-line c = omega (arith, room-left (c .before .before .before .before .before .before .before) (c .before .before .before .before .before .before .loop-test .taken) .1)
 
 add-put-line : tie.Need-add-put-line Inv-loop μ-loop
-add-put-line c =
-    let at = c .before .before .before .before .before .before .before .before .before .before in
-    let o = at .loop .inv in
-    let i = c .before .before .before .before .before .before .before .before .before .loop-test .taken in
-    let m = at .before .room .ensures in
-    omega (arith, i, m, o .upto, o .bound, at .before .before .before .before .before .before .before .before .before .before .before .before .good .1 .1 .1 .0 .1)
+add-put-line c = omega (arith, room-left (c .before .before .before .before .before .before .before) (c .before .before .before .before .before .before .loop-test .taken) .1)
 
 add-put-line-2 : tie.Need-add-put-line-2 Inv-loop μ-loop
-add-put-line-2 c =
-    let at = c .before .before .before .before .before .before .before .before .before .before in
-    let o = at .loop .inv in
-    let i = c .before .before .before .before .before .before .before .before .before .loop-test .taken in
-    let m = at .before .room .ensures in
-    omega (arith, i, m, o .upto, o .bound, at .before .before .before .before .before .before .before .before .before .before .before .before .good .1 .1 .1 .0 .1)
+add-put-line-2 c = omega (arith, room-left (c .before .before .before .before .before .before .before) (c .before .before .before .before .before .before .loop-test .taken) .1)
 
 kind-of-requires : tie.Need-kind-of-requires Inv-loop μ-loop
 kind-of-requires c κs = search needs
 
 put-line-requires : tie.Need-put-line-requires Inv-loop μ-loop
-put-line-requires c κs =
-    let at = c .before .before .before .before .before .before .before .before .before .before .before in
-    let o = at .loop .inv in
-    let i = c .before .before .before .before .before .before .before .before .before .before .loop-test .taken in
-    let m = at .before .room .ensures in
-    omega (arith, i, m, o .upto, o .bound, same-room o)
+put-line-requires c κs = omega (
+  arith,
+  room-left (c .before .before .before .before .before .before .before .before)
+      (c .before .before .before .before .before .before .before .loop-test .taken) .0,
+  same-room (c .before .before .before .before .before .before .before .before .loop .inv),
+)
 
 add-at : tie.Need-add-at Inv-loop μ-loop
 add-at c =
-    let at = c .before .before .before .before .before .before .before .before .before .before .before .before .before .before .before in
-    let o = at .loop .inv in
-    let t = taken-there _ _ _ (c .before .before .before .before .before .before .before .before .before .before .before .before .before .next .ensures .got (omega (arith, c .before .before .before .before .before .before .before .before .before .before .before .before .if1 .left))) in
-    omega (arith, o .inside, t, length-drop (at .loop .at) (at .before .before .before .before .before .before .before .before .before .before .before .before .args .bytes .now), at .before .before .before .before .before .before .before .before .before .before .before .before .good .1 .1 .0 .1)
+    let l = loopOf c in
+    let t = taken-there _ _ _ (c .before .before .before .before .before .before .before .before .before .before .next .ensures .got
+    (omega (arith, c .before .before .before .before .before .before .before .before .before .if1 .left))) in
+    omega (
+      arith,
+      l .loop .inv .inside,
+      t,
+      length-drop (l .loop .at) (l .before .before .before .before .before .before .before .before .args .bytes .now),
+      bytes-fit
+          (l .before .before .before .before .before .before .before .before) .fits,
+    )
 
 add-n : tie.Need-add-n Inv-loop μ-loop
-add-n c =
-    let at = c .before .before .before .before .before .before .before .before .before .before .before .before .before .before .before in
-    let o = at .loop .inv in
-    let i = c .before .before .before .before .before .before .before .before .before .before .before .before .before .before .loop-test .taken in
-    let m = at .before .room .ensures in
-    omega (arith, i, m, o .upto, o .bound)
+add-n c = omega (arith, room-left (loopOf c) (c .before .before .before .before .before .before .before .before .before .before .before .loop-test .taken) .1)
 
-mul-tasks : tie.Need-mul-tasks Inv-loop μ-loop
-mul-tasks c = search needs
-
-array-set-from-tasks : tie.Need-array-set-from-tasks Inv-loop μ-loop
-array-set-from-tasks c = search needs
+enum-told : tie.Need-enum-told Inv-loop μ-loop
+enum-told c = search needs
 
 loop-less-2 : tie.Need-loop-less-2 Inv-loop μ-loop
-loop-less-2 c =
-    omega (arith, c .before .before .before .before .before .before .before .before .before .before .before .before .before .before .before .before .loop-test .taken)
+loop-less-2 c = omega (arith, c .before .before .before .before .before .before .before .before .before .before .before .before .before .loop-test .taken)
 
 loop-again-2 : tie.Need-loop-again-2 Inv-loop μ-loop
-loop-again-2 c =
-    let at = c .before .before .before .before .before .before .before .before .before .before .before .before .before .before .before .before .before in
-    run-more (at .loop .inv) (c .before .before .before .before .before .before .before .before .before .before .before .before .before .before .before .before .loop-test .taken) (c .before .before .before .before .before .before .before .before .before .before .before .before .before .before .before .next .ensures) (omega (arith, c .before .before .before .before .before .before .before .before .before .before .before .before .before .before .if1 .left)) (c .before .before .before .before .before .before .before .before .answered .ensures) (c .before .before .before .before .before .before .kind-of .ensures) (c .before .before .before .before .before .put-line .ensures) (changed-put (c .before .before .before .before .before .before .before .before .answered .result) (at .loop .tasks) (c .before .if2 .taken)) (simp length-set (at .loop .inv .size))
+loop-again-2 c = let m = c .before .before in more m _ (changed-nothing _ (c .enum-told .given .1)) (loopOf m .loop .inv .size)
+
+enum-known-change : tie.Need-enum-known-change Inv-loop μ-loop
+enum-known-change c = search needs
+
+mul-tasks : tie.Need-mul-tasks Inv-loop μ-loop
+mul-tasks c = let h = rw (c .before .change .given .1) at (inside (c .before .before .before)) in omega arith
+
+array-set-from-tasks : tie.Need-array-set-from-tasks Inv-loop μ-loop
+array-set-from-tasks c = rw (c .before .change .given .1) at (inside (c .before .before .before))
+
+loop-less-3 : tie.Need-loop-less-3 Inv-loop μ-loop
+loop-less-3 c = omega (arith, c .before .before .before .before .before .before .before .before .before .before .before .before .before .before .loop-test .taken)
+
+loop-again-3 : tie.Need-loop-again-3 Inv-loop μ-loop
+loop-again-3 c = let m = c .before .before .before in more m _ (changed-booked _ (c .before .change .given .1)) (simp length-set (loopOf m .loop .inv .size))
+
+enum-known-change-2 : tie.Need-enum-known-change-2 Inv-loop μ-loop
+enum-known-change-2 c = search needs
 
 free-slot-requires : tie.Need-free-slot-requires Inv-loop μ-loop
 free-slot-requires c κs = search needs
 
-loop-less-3 : tie.Need-loop-less-3 Inv-loop μ-loop
-loop-less-3 c =
-    omega (arith, c .before .before .before .before .before .before .before .before .before .before .before .before .before .before .before .before .before .loop-test .taken)
+mul-tasks-2 : tie.Need-mul-tasks-2 Inv-loop μ-loop
+mul-tasks-2 c = let h = rw (c .before .before .change2 .given .1) at (inside (c .before .before .before .before)) in omega arith
 
-loop-again-3 : tie.Need-loop-again-3 Inv-loop μ-loop
-loop-again-3 c =
-    let at = c .before .before .before .before .before .before .before .before .before .before .before .before .before .before .before .before .before .before in
-    run-more (at .loop .inv) (c .before .before .before .before .before .before .before .before .before .before .before .before .before .before .before .before .before .loop-test .taken) (c .before .before .before .before .before .before .before .before .before .before .before .before .before .before .before .before .next .ensures) (omega (arith, c .before .before .before .before .before .before .before .before .before .before .before .before .before .before .before .if1 .left)) (c .before .before .before .before .before .before .before .before .before .answered .ensures) (c .before .before .before .before .before .before .before .kind-of .ensures) (c .before .before .before .before .before .before .put-line .ensures) (changed-all (c .before .before .before .before .before .before .before .before .before .answered .result) (at .loop .tasks) (c .before .if3 .taken) (c .free-slot .result) (c .free-slot .ensures)) refl
+array-set-from-tasks-2 : tie.Need-array-set-from-tasks-2 Inv-loop μ-loop
+array-set-from-tasks-2 c = rw (c .before .before .change2 .given .1) at (inside (c .before .before .before .before))
 
 loop-less-4 : tie.Need-loop-less-4 Inv-loop μ-loop
-loop-less-4 c =
-    omega (arith, c .before .before .before .before .before .before .before .before .before .before .before .before .before .before .before .before .loop-test .taken)
+loop-less-4 c = omega (arith, c .before .before .before .before .before .before .before .before .before .before .before .before .before .before .before .loop-test .taken)
 
 loop-again-4 : tie.Need-loop-again-4 Inv-loop μ-loop
 loop-again-4 c =
-    let at = c .before .before .before .before .before .before .before .before .before .before .before .before .before .before .before .before .before in
-    run-more (at .loop .inv) (c .before .before .before .before .before .before .before .before .before .before .before .before .before .before .before .before .loop-test .taken) (c .before .before .before .before .before .before .before .before .before .before .before .before .before .before .before .next .ensures) (omega (arith, c .before .before .before .before .before .before .before .before .before .before .before .before .before .before .if1 .left)) (c .before .before .before .before .before .before .before .before .answered .ensures) (c .before .before .before .before .before .before .kind-of .ensures) (c .before .before .before .before .before .put-line .ensures) (changed-none (c .before .before .before .before .before .before .before .before .answered .result) (at .loop .tasks) (c .before .if2 .left) (c .if3 .left)) (at .loop .inv .size)
+    let m = c .before .before .before .before in
+    more m _ (changed-freed _ (c .before .before .change2 .given .1) (c .free-slot .ensures)) (simp length-set (loopOf m .loop .inv .size))
+
+enum-told-2 : tie.Need-enum-told-2 Inv-loop μ-loop
+enum-told-2 c = search needs
+
+free-slot-requires-2 : tie.Need-free-slot-requires-2 Inv-loop μ-loop
+free-slot-requires-2 c κs = search needs
+
+loop-less-5 : tie.Need-loop-less-5 Inv-loop μ-loop
+loop-less-5 c = omega (arith, c .before .before .before .before .before .before .before .before .before .before .before .before .before .before .loop-test .taken)
+
+loop-again-5 : tie.Need-loop-again-5 Inv-loop μ-loop
+loop-again-5 c = more (c .before .before .before) _ (changed-cleared _ (c .before .enum-told2 .given .1) (c .free-slot2 .ensures)) refl
 
 brought-requires : tie.Need-brought-requires Inv-loop μ-loop
 brought-requires c κs = search needs
@@ -164,8 +205,7 @@ run-spec =
     (tie.spec
     Inv-loop
     μ-loop
-    apart-requires
-    is-sound-requires
+    stand-requires
     room-requires
     loop-holds
     next-requires
@@ -180,15 +220,24 @@ run-spec =
     put-line-requires
     add-at
     add-n
-    mul-tasks
-    array-set-from-tasks
+    enum-told
     loop-less-2
     loop-again-2
-    free-slot-requires
+    enum-known-change
+    mul-tasks
+    array-set-from-tasks
     loop-less-3
     loop-again-3
+    enum-known-change-2
+    free-slot-requires
+    mul-tasks-2
+    array-set-from-tasks-2
     loop-less-4
     loop-again-4
+    enum-told-2
+    free-slot-requires-2
+    loop-less-5
+    loop-again-5
     brought-requires
     same-length
     returns)

@@ -28,16 +28,16 @@ withdraw-requires : tie.Need-withdraw-requires
 withdraw-requires c κs = search needs
 
 returns : tie.Need-returns
-returns c = λ ks k. rw (c .before .before .before .before .before .before .before .event .given .1) (c .new-board .ensures ks k)
+returns c = λ ks k. rw (c .before .before .before .before .event .given .1) (c .new-board .ensures ks k)
 
 returns-2 : tie.Need-returns-2
-returns-2 c = λ ks k. rw (c .before .before .before .before .before .before .before .event2 .given .1) (c .submit .ensures ks k)
+returns-2 c = λ ks k. rw (c .before .before .before .before .event2 .given .1) (c .submit .ensures ks k)
 
 returns-3 : tie.Need-returns-3
-returns-3 c = λ ks k. rw (c .before .before .before .before .before .before .before .event3 .given .1) (c .clock .ensures ks k)
+returns-3 c = λ ks k. rw (c .before .before .before .before .event3 .given .1) (c .clock .ensures ks k)
 
 returns-4 : tie.Need-returns-4
-returns-4 c = λ ks k. rw (c .before .before .before .before .before .before .before .event4 .given .1) (c .withdraw .ensures ks k)
+returns-4 c = λ ks k. rw (c .before .before .before .before .event4 .given .1) (c .withdraw .ensures ks k)
 
 pub answered-spec : {M : Type 1} → statement M
 answered-spec =

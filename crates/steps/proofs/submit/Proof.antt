@@ -1,12 +1,20 @@
--- `steps::submit` meets its contract: 1, or as is decided, and a place is booked. Assumes nothing.
-use Prim.Native.Nat.{ℕ}
-use mathlib.Core.Path.{_≡_, sym, _∙_}
+-- `steps::submit` meets its contract: 1, as is decided, and a task that is placed stands in the table. Assumes nothing.
+use Prim.Native.Nat.{_≤_}
+use mathlib.Core.Path.{sym, _∙_}
 use native.Mathlib.Omega.{arith}
+use mir.Syntax.{w32}
+use mir.Val.{Fits}
 use borrow.Author.Tests.{not-true, not-false}
-use Rattle.steps.proofs.Steps.{step-same, unsound-submit, all-sound, told-rejected, told-refused, step-unplaced, books, task-fits, step-placed}
+use Rattle.live.proofs.InUse.{free-lowest}
+use Rattle.board.proofs.Placed.{rejected-places, refused-places}
+use Rattle.steps.proofs.Steps.{told-rejected, told-refused, step-same, unsound-submit, step-unplaced, books, task-fits, has-room, step-placed}
 use borrow.Author.Needs.{needs}
 use Rattle.steps.proofs.submit.Statement.{statement}
 use Rattle.steps.proofs.submit.Tie as tie
+
+-- an id has 32 bits
+id-fits : (s : tie.Start) → Fits w32 (s .args .a .id)
+id-fits s = search needs
 
 bare-requires : tie.Need-bare-requires
 bare-requires c κs = search needs
@@ -17,18 +25,20 @@ returns c = λ ks k.
     let a = n .before .before .args in
     rw (c .bare .ensures) (step-same (a .d) ks k _ 1 (unsound-submit (a .d) ks k (not-true (a .d .sound) (n .if1 .taken)) (a .planner) (a .a)))
 
-gather-requires : tie.Need-gather-requires
-gather-requires c κs = c .before .before .before .before .before .before .before .pre .kept .above .upto
+lowest-free-requires : tie.Need-lowest-free-requires
+lowest-free-requires c κs = search needs
+
+cast-slot : tie.Need-cast-slot
+cast-slot c = search needs
 
 decide-requires : tie.Need-decide-requires
 decide-requires c κs =
-    let g = c .before .before .before .before .before .before in
-    let e = g .before .before .before .before .before .before in
+    let f = c .before .before in
+    let e = f .before in
     let st = e .before .before in
-    let a = st .args in
-    let u = not-false (a .d .sound) (e .if1 .left) in
-    let k = st .pre .kept in
-    record { slots = st .pre .tasks; free = _; well = _; surveyed = (g .gather .ensures (a .d .columns) (a .d .rows) (a .d .clock) (st .pre .tasks) (all-sound (a .d) (st .pre .tasks) k u) (k .mirrors u) (k .above)); good = k .good ∙ u }
+    let k = st .pre .keeps in
+    let u = not-false (st .args .d .sound) (e .if1 .left) in
+    record { slots = st .pre .tasks; kept = k .kept u; lowest = free-lowest (k .slots) (k .used u) (f .lowest-free .ensures); masked = λ x y. k .masked u }
 
 enum-told : tie.Need-enum-told
 enum-told c = search needs
@@ -48,64 +58,83 @@ enum-known-answer-2 c = search needs
 booked-requires : tie.Need-booked-requires
 booked-requires c κs = search needs
 
-put-requires : tie.Need-put-requires
-put-requires c κs =
-    let x = c .before .before .before .before .before .before .before .before .before in
-    let g = x .before .before .before .before .before .before .before in
-    let e = g .before .before .before .before .before .before in
+insert-requires : tie.Need-insert-requires
+insert-requires c κs =
+    let x = c .before .before .before .before .before .before in
+    let f = x .before .before .before in
+    let e = f .before in
     let st = e .before .before in
     let a = st .args in
+    let k = st .pre .keeps in
     let u = not-false (a .d .sound) (e .if1 .left) in
-    let k = st .pre .kept in
-    let o = books (a .d) (st .pre .tasks) k u (a .planner) (a .a) _ _ _ _ (g .gather .ensures (a .d .columns) (a .d .rows) (a .d .clock) (st .pre .tasks) (all-sound (a .d) (st .pre .tasks) k u) (k .mirrors u) (k .above) .free) (sym (c .before .before .before .before .before .before .before .answer2 .given .1) ∙ (x .decide .ensures (st .pre .tasks) _ _ (g .gather .ensures (a .d .columns) (a .d .rows) (a .d .clock) (st .pre .tasks) (all-sound (a .d) (st .pre .tasks) k u) (k .mirrors u) (k .above)) (k .good ∙ u))) in
-    ((k .ids, k .starts, k .finishes, k .lefts, k .pasts), (o .inside, task-fits (a .d) (st .pre .tasks) k u (a .planner) (a .a) _ _ _ _ (g .gather .ensures (a .d .columns) (a .d .rows) (a .d .clock) (st .pre .tasks) (all-sound (a .d) (st .pre .tasks) k u) (k .mirrors u) (k .above) .free) (sym (c .before .before .before .before .before .before .before .answer2 .given .1) ∙ (x .decide .ensures (st .pre .tasks) _ _ (g .gather .ensures (a .d .columns) (a .d .rows) (a .d .clock) (st .pre .tasks) (all-sound (a .d) (st .pre .tasks) k u) (k .mirrors u) (k .above)) (k .good ∙ u))) _ (c .before .before .before .before .before .booked .ensures)))
+    let l = free-lowest (k .slots) (k .used u) (f .lowest-free .ensures) in
+    let q = sym (c .before .before .before .before .answer2 .given .1) ∙ x .decide .ensures (st .pre .tasks) (k .kept u) l in
+    let fits = task-fits (a .d) (st .pre .tasks) k u (a .planner) (a .a) _ _ _ _ l q _ (c .before .before .booked .ensures) in
+    (has-room (a .d) (st .pre .tasks) k u (a .planner) (a .a) _ _ _ _ l q, books (a .d) (st .pre .tasks) k u (a .planner) (a .a) _ _ _ _ l q .inside, fits, k .size, k .wide, k .kept u .falling)
 
-add-higher : tie.Need-add-higher
-add-higher c =
-    let x = c .before .before .before .before .before .before .before .before .before .before in
-    let g = x .before .before .before .before .before .before .before in
-    let e = g .before .before .before .before .before .before in
+add-t24 : tie.Need-add-t24
+add-t24 c =
+    let y = c .before .before in
+    let x = y .before .before .before .before .before .before in
+    let f = x .before .before .before in
+    let e = f .before in
     let st = e .before .before in
     let a = st .args in
+    let k = st .pre .keeps in
     let u = not-false (a .d .sound) (e .if1 .left) in
-    let k = st .pre .kept in
-    let o = books (a .d) (st .pre .tasks) k u (a .planner) (a .a) _ _ _ _ (g .gather .ensures (a .d .columns) (a .d .rows) (a .d .clock) (st .pre .tasks) (all-sound (a .d) (st .pre .tasks) k u) (k .mirrors u) (k .above) .free) (sym (c .before .before .before .before .before .before .before .before .answer2 .given .1) ∙ (x .decide .ensures (st .pre .tasks) _ _ (g .gather .ensures (a .d .columns) (a .d .rows) (a .d .clock) (st .pre .tasks) (all-sound (a .d) (st .pre .tasks) k u) (k .mirrors u) (k .above)) (k .good ∙ u))) in
-    omega (arith, o .inside)
+    let l = free-lowest (k .slots) (k .used u) (f .lowest-free .ensures) in
+    let q = sym (y .before .before .before .before .answer2 .given .1) ∙ x .decide .ensures (st .pre .tasks) (k .kept u) l in
+    omega (arith, has-room (a .d) (st .pre .tasks) k u (a .planner) (a .a) _ _ _ _ l q)
 
-higher-requires : tie.Need-higher-requires
-higher-requires c κs = search needs
+with-slot-requires : tie.Need-with-slot-requires
+with-slot-requires c κs =
+    let y = c .before .before in
+    let x = y .before .before .before .before .before .before in
+    let f = x .before .before .before in
+    let e = f .before in
+    let st = e .before .before in
+    let a = st .args in
+    let k = st .pre .keeps in
+    let u = not-false (a .d .sound) (e .if1 .left) in
+    let l = free-lowest (k .slots) (k .used u) (f .lowest-free .ensures) in
+    let q = sym (y .before .before .before .before .answer2 .given .1) ∙ x .decide .ensures (st .pre .tasks) (k .kept u) l in
+    books (a .d) (st .pre .tasks) k u (a .planner) (a .a) _ _ _ _ l q .inside
 
 returns-2 : tie.Need-returns-2
 returns-2 c = λ ks k.
     let x = c .before .before .before in
-    let g = x .before .before .before .before .before .before .before in
-    let e = g .before .before .before .before .before .before in
-    let st = e .before .before in
-    let a = st .args in
+    let f = x .before .before .before in
+    let e = f .before in
+    let a = e .before .before .args in
     let u = not-false (a .d .sound) (e .if1 .left) in
-    rw (c .bare2 .ensures) (step-same (a .d) ks k _ 10 (step-unplaced (a .d) ks k u (a .planner) (a .a) _ 10 (sym (c .before .enum-told .given .1) ∙ (x .decide .ensures ks _ _ (g .gather .ensures (a .d .columns) (a .d .rows) (a .d .clock) ks (all-sound (a .d) ks k u) (k .mirrors u) (k .above)) (k .good ∙ u))) (λ p q r z. let w : _≡_ {A = ℕ} 0 1 = cc in omega arith) told-rejected))
+    let l = free-lowest (k .slots) (k .used u) (f .lowest-free .ensures) in
+    rw (c .bare2 .ensures)
+    (step-same (a .d) ks k _ 10 (step-unplaced (a .d) ks k u (a .planner) (a .a) _ 10 (sym (c .before .enum-told .given .1) ∙ x .decide .ensures ks (k .kept u) l) rejected-places told-rejected))
 
 returns-3 : tie.Need-returns-3
 returns-3 c = λ ks k.
     let x = c .before .before .before .before in
-    let g = x .before .before .before .before .before .before .before in
-    let e = g .before .before .before .before .before .before in
-    let st = e .before .before in
-    let a = st .args in
+    let f = x .before .before .before in
+    let e = f .before in
+    let a = e .before .before .args in
     let u = not-false (a .d .sound) (e .if1 .left) in
-    rw (c .bare3 .ensures) (step-same (a .d) ks k _ _ (step-unplaced (a .d) ks k u (a .planner) (a .a) _ _ (sym (c .before .before .answer .given .1) ∙ (x .decide .ensures ks _ _ (g .gather .ensures (a .d .columns) (a .d .rows) (a .d .clock) ks (all-sound (a .d) ks k u) (k .mirrors u) (k .above)) (k .good ∙ u))) (λ p q r z. let w : _≡_ {A = ℕ} 0 1 = cc in omega arith) (told-refused _)))
+    let l = free-lowest (k .slots) (k .used u) (f .lowest-free .ensures) in
+    rw (c .bare3 .ensures)
+    (step-same (a .d) ks k _ _ (step-unplaced (a .d) ks k u (a .planner) (a .a) _ _ (sym (c .before .before .answer .given .1)
+    ∙ x .decide .ensures ks (k .kept u) l) (refused-places _) (told-refused _)))
 
 returns-4 : tie.Need-returns-4
 returns-4 c = λ ks k.
-    let x = c .before .before .before .before .before .before .before .before .before .before .before in
-    let g = x .before .before .before .before .before .before .before in
-    let e = g .before .before .before .before .before .before in
-    let st = e .before .before in
-    let a = st .args in
+    let i = c .before .before in
+    let y = i .before in
+    let x = y .before .before .before .before .before .before in
+    let f = x .before .before .before in
+    let e = f .before in
+    let a = e .before .before .args in
     let u = not-false (a .d .sound) (e .if1 .left) in
-    let p = c .before .put .ensures in
-    rw (p .0, p .1 .0, p .1 .1 .0, p .1 .1 .1 .0, p .1 .1 .1 .1)
-    (step-placed (a .d) ks k u (a .planner) (a .a) _ _ _ _ (g .gather .ensures (a .d .columns) (a .d .rows) (a .d .clock) ks (all-sound (a .d) ks k u) (k .mirrors u) (k .above) .free) (sym (c .before .before .before .before .before .before .before .before .before .answer2 .given .1) ∙ (x .decide .ensures ks _ _ (g .gather .ensures (a .d .columns) (a .d .rows) (a .d .clock) ks (all-sound (a .d) ks k u) (k .mirrors u) (k .above)) (k .good ∙ u))) (omega (arith, st .good .1 .1 .1 .1 .1 .1 .1 .0 .1 .1 .0 .1)) _ (c .before .before .before .before .before .before .before .booked .ensures) (c .higher .ensures))
+    let l = free-lowest (k .slots) (k .used u) (f .lowest-free .ensures) in
+    let q = sym (y .before .before .before .before .answer2 .given .1) ∙ x .decide .ensures ks (k .kept u) l in
+    step-placed (a .d) ks k u (a .planner) (a .a) _ _ _ _ l q (omega (arith, id-fits (e .before .before) .fits)) _ (y .before .before .booked .ensures) (i .insert .ensures) _ (c .with-slot .ensures)
 
 pub submit-spec : {M : Type 1} → statement M
 submit-spec =
@@ -113,7 +142,8 @@ submit-spec =
     (tie.spec
     bare-requires
     returns
-    gather-requires
+    lowest-free-requires
+    cast-slot
     decide-requires
     enum-told
     bare-requires-2
@@ -121,9 +151,9 @@ submit-spec =
     bare-requires-3
     enum-known-answer-2
     booked-requires
-    put-requires
-    add-higher
-    higher-requires
+    insert-requires
+    add-t24
+    with-slot-requires
     returns-2
     returns-3
     returns-4)

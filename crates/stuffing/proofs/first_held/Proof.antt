@@ -36,7 +36,10 @@ loop-less : tie.Need-loop-less Inv-loop μ-loop
 loop-less c = search needs
 
 loop-again : tie.Need-loop-again Inv-loop μ-loop
-loop-again c = let l = c .before .before .before .loop in (omega (arith, l .inv .0), omega arith, λ k h m. free-more (c .before .before .before .before .args .row .now) (l .c) k (c .if1 .left) (λ n. l .inv .2 k h (omega arith)))
+loop-again c =
+    let p = c .before .before .before in
+    let l = p .loop in
+    (omega (arith, l .inv .0), omega arith, λ k h m. free-more (p .before .args .row .now) (l .c) k (c .if1 .left) (λ n. l .inv .2 k h (omega arith)))
 
 returns-2 : tie.Need-returns-2 Inv-loop μ-loop
 returns-2 c = let l = c .before .loop .inv in record { low = l .0; high = l .1; free = l .2; held = λ h. absurd (omega arith) }

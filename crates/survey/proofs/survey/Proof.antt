@@ -1,28 +1,21 @@
+use borrow.Author.Needs.{needs}
 -- `survey::survey` meets its contract: the loop passes the slots one by one. Assumes nothing.
 use Prim.Native.Nat.{_-_}
-use mathlib.Core.Path.{refl}
 use native.Mathlib.Omega.{arith}
-use borrow.Author.Needs.{needs}
-use Rattle.slots.proofs.Passed.{Passed, begin, pass, end}
+use Rattle.words.proofs.Digits.{bit-of-zero}
+use Rattle.survey.proofs.Passed.{Passed, begin, pass, end}
 use Rattle.survey.proofs.survey.Statement.{statement}
 use Rattle.survey.proofs.survey.Tie as tie
-use Rattle.survey.proofs.survey.Reads as reads
-use Rattle.survey.proofs.survey.Lts as lts
-use Rattle.slots.proofs.lowest.Reads as lowest-reads
-use Rattle.slots.proofs.one_if.Reads as one-if-reads
-use Rattle.slots.proofs.slot_sound.Reads as slot-sound-reads
-use Rattle.tasks.proofs.is_live.Reads as is-live-reads
 
 abbrev Inv-loop : tie.InvT-loop
-Inv-loop columns rows now tasks id₀ start₀ finish₀ left₀ past₀ count₀ free₀ sound₀ i₀ id start finish left past count free sound i =
-    Passed columns rows now tasks id start finish left past count free sound i
+Inv-loop columns rows clock live₀ tasks count₀ used₀ sound₀ i₀ live count used sound i =
+    Passed columns rows clock tasks live count used sound i
 
 abbrev μ-loop : tie.MeasureT-loop
-μ-loop columns rows now tasks id₀ start₀ finish₀ left₀ past₀ count₀ free₀ sound₀ i₀ id start finish left past count free sound i =
-    64 - i
+μ-loop columns rows clock live₀ tasks count₀ used₀ sound₀ i₀ live count used sound i = 64 - i
 
 loop-holds : tie.Need-loop-holds Inv-loop μ-loop
-loop-holds c = begin _ _ _ _ _ _ _ _ _ (c .good .1 .1 .1 .0 .1 .0 .1) refl refl refl refl refl
+loop-holds c = begin _ _ _ _ _ (c .pre) (search needs) (λ j h. bit-of-zero j)
 
 mul-k : tie.Need-mul-k Inv-loop μ-loop
 mul-k c = search needs
@@ -36,68 +29,49 @@ slot-sound-requires c κs = search needs
 is-live-requires : tie.Need-is-live-requires Inv-loop μ-loop
 is-live-requires c κs = search needs
 
-mul-id : tie.Need-mul-id Inv-loop μ-loop
-mul-id c = search needs
+cast-put : tie.Need-cast-put Inv-loop μ-loop
+cast-put c = search needs
 
-array-write-id : tie.Need-array-write-id Inv-loop μ-loop
-array-write-id c = search needs
+cast-put-2 : tie.Need-cast-put-2 Inv-loop μ-loop
+cast-put-2 c = search needs
 
-mul-start : tie.Need-mul-start Inv-loop μ-loop
-mul-start c = search needs
+add-put : tie.Need-add-put Inv-loop μ-loop
+add-put c = search needs
 
-array-write-start : tie.Need-array-write-start Inv-loop μ-loop
-array-write-start c = search needs
+cast-put-3 : tie.Need-cast-put-3 Inv-loop μ-loop
+cast-put-3 c = search needs
 
-cast-finish : tie.Need-cast-finish Inv-loop μ-loop
-cast-finish c = search needs
+cast-put-4 : tie.Need-cast-put-4 Inv-loop μ-loop
+cast-put-4 c = search needs
 
-cast-finish-2 : tie.Need-cast-finish-2 Inv-loop μ-loop
-cast-finish-2 c = search needs
+cast-put-5 : tie.Need-cast-put-5 Inv-loop μ-loop
+cast-put-5 c = search needs
 
-add-finish : tie.Need-add-finish Inv-loop μ-loop
-add-finish c = search needs
+cast-put-6 : tie.Need-cast-put-6 Inv-loop μ-loop
+cast-put-6 c = search needs
 
-cast-finish-3 : tie.Need-cast-finish-3 Inv-loop μ-loop
-cast-finish-3 c = search needs
+add-put-2 : tie.Need-add-put-2 Inv-loop μ-loop
+add-put-2 c = search needs
 
-mul-finish : tie.Need-mul-finish Inv-loop μ-loop
-mul-finish c = search needs
+cast-put-7 : tie.Need-cast-put-7 Inv-loop μ-loop
+cast-put-7 c = search needs
 
-array-write-finish : tie.Need-array-write-finish Inv-loop μ-loop
-array-write-finish c = search needs
-
-cast-left : tie.Need-cast-left Inv-loop μ-loop
-cast-left c = search needs
-
-mul-left : tie.Need-mul-left Inv-loop μ-loop
-mul-left c = search needs
-
-array-write-left : tie.Need-array-write-left Inv-loop μ-loop
-array-write-left c = search needs
-
-cast-past : tie.Need-cast-past Inv-loop μ-loop
-cast-past c = search needs
-
-cast-past-2 : tie.Need-cast-past-2 Inv-loop μ-loop
-cast-past-2 c = search needs
-
-add-past : tie.Need-add-past Inv-loop μ-loop
-add-past c = search needs
-
-mul-past : tie.Need-mul-past Inv-loop μ-loop
-mul-past c = search needs
-
-array-write-past : tie.Need-array-write-past Inv-loop μ-loop
-array-write-past c = search needs
+put-requires : tie.Need-put-requires Inv-loop μ-loop
+put-requires c κs = search needs
 
 one-if-requires : tie.Need-one-if-requires Inv-loop μ-loop
 one-if-requires c κs = search needs
 
 add-count : tie.Need-add-count Inv-loop μ-loop
-add-count c = search needs
+add-count c =
+    let l = c .before .before .before .before .before .before .before .before .before .before .before .before .loop in
+    omega (arith, l .inv .below, c .one-if .ensures .1)
 
-lowest-requires : tie.Need-lowest-requires Inv-loop μ-loop
-lowest-requires c κs = search needs
+cast-used-with : tie.Need-cast-used-with Inv-loop μ-loop
+cast-used-with c = search needs
+
+used-with-requires : tie.Need-used-with-requires Inv-loop μ-loop
+used-with-requires c κs = search needs
 
 add-i : tie.Need-add-i Inv-loop μ-loop
 add-i c = search needs
@@ -107,9 +81,11 @@ loop-less c = search needs
 
 loop-again : tie.Need-loop-again Inv-loop μ-loop
 loop-again c =
-    let after = c .before .before .before .before .before .before .before in
-    let l = after .before .before .before .before in
-    pass _ _ _ _ (l .loop .inv) (omega arith) (after .before .slot-sound .ensures) (after .is-live .ensures) (c .before .one-if .ensures .0) (c .lowest .ensures)
+    let put = c .before .before in
+    let known = put .before .before .before .before .before .before .before in
+    let l = known .before .before .before .before .loop in
+    rw (put .put .ensures)
+    (pass _ _ _ _ (l .inv) (omega arith) (known .before .slot-sound .ensures) (known .is-live .ensures) (c .before .one-if .ensures .0) (c .used-with .ensures))
 
 returns : tie.Need-returns Inv-loop μ-loop
 returns c = end _ _ _ _ (c .before .loop .inv) (omega arith)
@@ -125,27 +101,20 @@ survey-spec =
     array-copy-out-k
     slot-sound-requires
     is-live-requires
-    mul-id
-    array-write-id
-    mul-start
-    array-write-start
-    cast-finish
-    cast-finish-2
-    add-finish
-    cast-finish-3
-    mul-finish
-    array-write-finish
-    cast-left
-    mul-left
-    array-write-left
-    cast-past
-    cast-past-2
-    add-past
-    mul-past
-    array-write-past
+    cast-put
+    cast-put-2
+    add-put
+    cast-put-3
+    cast-put-4
+    cast-put-5
+    cast-put-6
+    add-put-2
+    cast-put-7
+    put-requires
     one-if-requires
     add-count
-    lowest-requires
+    cast-used-with
+    used-with-requires
     add-i
     loop-less
     loop-again

@@ -2,67 +2,62 @@
 use mathlib.Core.Path.{sym, _∙_}
 use native.Mathlib.Omega.{arith}
 use borrow.Author.Tests.{not-true, not-false}
-use borrow.Author.Needs.{needs}
 use Rattle.board.proofs.Lookups.{listed-unsound, lent-on, has-columns, listed-short, listed-done}
+use borrow.Author.Needs.{needs}
 use Rattle.board.proofs.Board.horizon.Statement.{statement}
 use Rattle.board.proofs.Board.horizon.Tie as tie
 
-survey-requires : tie.Need-survey-requires
-survey-requires c κs = search needs
-
-found-sound-requires : tie.Need-found-sound-requires
-found-sound-requires c κs = search needs
+test-requires : tie.Need-test-requires
+test-requires c κs = search needs
 
 returns : tie.Need-returns
 returns c =
-    let f = c .before in
-    let a = f .before .before .before .before .args in
-    listed-unsound (a .self) (a .buffer .now) (sym (f .found-sound .ensures _ (f .before .survey .ensures)) ∙ not-true (f .found-sound .result) (c .if1 .taken))
+    let t = c .before .before in
+    let a = t .before .before .before .before .args in
+    listed-unsound (a .self) (a .buffer .now) (sym (t .test .ensures .sound) ∙ not-true _ (c .if1 .taken))
 
 cast-strips : tie.Need-cast-strips
 cast-strips c = search needs
 
 strips-requires : tie.Need-strips-requires
 strips-requires c κs =
-    let l = c .before .before .before .before .before .before .before in
-    let f = l .before in
-    let a = f .before .before .before .before .args in
-    let g = sym (f .found-sound .ensures _ (f .before .survey .ensures)) ∙ not-false (f .found-sound .result) (l .if1 .left) in
-    (lent-on (a .self) (f .before .survey .result) (f .before .survey .ensures) g, has-columns (a .self) (f .before .survey .result) (f .before .survey .ensures) g)
+    let e = c .before .before .before in
+    let t = e .before .before in
+    let k = t .test .ensures .kept (not-false _ (e .if1 .left)) in
+    (lent-on _ _ _ (k .stands) (k .good), k .falling, has-columns _ _ _ (k .stands) (k .good))
 
 mul-if2 : tie.Need-mul-if2
-mul-if2 c = omega (arith, c .before .before .strips .ensures .1 .1)
+mul-if2 c = search needs
 
 same-length : tie.Need-same-length
 same-length c = search needs
 
 returns-2 : tie.Need-returns-2
 returns-2 c =
-    let k = c .before .before .before in
-    let l = k .before .before .before .before .before .before .before .before in
-    let f = l .before in
-    let a = f .before .before .before .before .args in
-    let g = sym (f .found-sound .ensures _ (f .before .survey .ensures)) ∙ not-false (f .found-sound .result) (l .if1 .left) in
-    listed-short (a .self) (f .before .survey .result) (f .before .survey .ensures) g (a .buffer .now) (k .strips .ensures .0) (k .strips .ensures .1 .0) (omega arith)
+    let l = c .before .before .before in
+    let e = l .before .before .before .before in
+    let t = e .before .before in
+    let a = t .before .before .before .before .args in
+    let k = t .test .ensures .kept (not-false _ (e .if1 .left)) in
+    listed-short (a .self) _ _ (k .stands) (k .good) (a .buffer .now) (l .strips .ensures .0) (l .strips .ensures .1 .0) (omega arith)
 
 same-length-2 : tie.Need-same-length-2
 same-length-2 c = search needs
 
 returns-3 : tie.Need-returns-3
 returns-3 c =
-    let k = c .before .before .before in
-    let l = k .before .before .before .before .before .before .before .before in
-    let f = l .before in
-    let a = f .before .before .before .before .args in
-    let g = sym (f .found-sound .ensures _ (f .before .survey .ensures)) ∙ not-false (f .found-sound .result) (l .if1 .left) in
-    listed-done (a .self) (f .before .survey .result) (f .before .survey .ensures) g (a .buffer .now) (k .strips .ensures .0) (k .strips .ensures .1 .0) (omega arith)
+    let l = c .before .before .before in
+    let e = l .before .before .before .before in
+    let t = e .before .before in
+    let a = t .before .before .before .before .args in
+    let k = t .test .ensures .kept (not-false _ (e .if1 .left)) in
+    listed-done (a .self) _ _ (k .stands) (k .good) (a .buffer .now) (l .strips .ensures .0) (l .strips .ensures .1 .0) (omega arith)
 
 pub horizon-spec : {M : Type 1} → statement M
 horizon-spec =
     tie.close
     (tie.spec
-    survey-requires
-    found-sound-requires
+    test-requires
     returns
     cast-strips
     strips-requires

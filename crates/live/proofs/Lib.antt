@@ -1,0 +1,5 @@
+pub mod Laws
+pub mod InUse
+pub mod Putting
+pub mod Standing
+pub mod Planned
