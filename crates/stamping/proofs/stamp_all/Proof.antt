@@ -57,7 +57,9 @@ use Rattle.tasks.proofs.Task as T
 use Rattle.tasks.proofs.Task.Laws as T′
 use Rattle.tasks.proofs.stamp as stamp
 use Rattle.tasks.proofs.stamp.Symbol as stamp-def
+use Rattle.tasks.proofs.stamp.Symbol.{name as #tasks·stamp}
 use Rattle.tasks.proofs.stamp.Met as stamp-thm
+use Rattle.stamping.proofs.stamp_all.Key.{name as #stamping·stamp-all}
 use Rattle.stamping.proofs.stamp_all as stamp-all
 use Rattle.stamping.proofs.stamp_all.Statement as stated
 use Rattle.stamping.proofs.stamp_all.Code as code

@@ -52,7 +52,9 @@ use Rattle.tasks.proofs.Task as R′
 use Rattle.tasks.proofs.Task.Laws as T′
 use Rattle.stamping.proofs.stamp_all as stamp-all
 use Rattle.stamping.proofs.stamp_all.Symbol as stamp-all-def
+use Rattle.stamping.proofs.stamp_all.Symbol.{name as #stamping·stamp-all}
 use Rattle.stamping.proofs.stamp_all.Met as stamp-all-thm
+use Rattle.stamping.proofs.stamp_slots.Key.{name as #stamping·stamp-slots}
 use Rattle.stamping.proofs.stamp_slots as stamp-slots
 use Rattle.stamping.proofs.stamp_slots.Statement as stated
 use Rattle.stamping.proofs.stamp_slots.Code as code
