@@ -51,7 +51,8 @@ module _ {A : Type 0} where
   index-left p l i d h = rw (add-one i, drop-cons l i d h)
 
   -- a walk up to the first that passes: what is left gives the place
-  pub index-on : (p : A → Bool) (l : List A) (i : ℕ) (d : A) → i < length l → p (getD l i d) ≡ false → indexOf p l ≡ i + indexOf p (drop i l) → indexOf p l ≡ i + 1 + indexOf p (drop (i + 1) l)
+  pub index-on : (p : A → Bool) (l : List A) (i : ℕ) (d : A) → i < length l → p (getD l i d) ≡ false → indexOf p l ≡ i + indexOf p (drop i l)
+      → indexOf p l ≡ i + 1 + indexOf p (drop (i + 1) l)
   index-on p l i d h t e =
       let x : indexOf p (drop i l) ≡ indexOf p (drop (i + 1) l) + 1 = index-left p l i d h ∙ ap (λ b. cond b 0 (indexOf p (drop (i + 1) l) + 1)) t in
       omega arith
@@ -67,7 +68,8 @@ module _ {A : Type 0} where
       omega arith
 
 -- what stands at a place after a store
-pub stored : {A : Type 0} (Q : A → Type 0) (l : List A) (i : ℕ) (v : A) (k : ℕ) (d : A) → i < length l → (k ≡ i → Q v) → ((k ≡ i → ⊥) → Q (getD l k d)) → Q (getD (set l i v) k d)
+pub stored : {A : Type 0} (Q : A → Type 0) (l : List A) (i : ℕ) (v : A) (k : ℕ) (d : A) → i < length l → (k ≡ i → Q v)
+    → ((k ≡ i → ⊥) → Q (getD l k d)) → Q (getD (set l i v) k d)
 stored Q l i v k d h f g = go (decEq k i)
   where
     go : Dec (k ≡ i) → Q (getD (set l i v) k d)
@@ -109,7 +111,8 @@ module _ {A : Type 0} (f : A → A) where
       let n : length (map f (take i l)) ≡ i = length-map (take i l) f ∙ length-take-le i l (omega arith) in
       rw (drop-cons l i d h) (getD-at (map f (take i l)) (getD l i d) (drop (suc i) l) d i n)
 
-  pub map-step : (l next : List A) (i : ℕ) (d : A) {r : A} → next ≡ map f (take i l) ++ drop i l → i < length l → r ≡ f (getD next i d) → set next i r ≡ map f (take (i + 1) l) ++ drop (i + 1) l
+  pub map-step : (l next : List A) (i : ℕ) (d : A) {r : A} → next ≡ map f (take i l) ++ drop i l → i < length l → r ≡ f (getD next i d)
+      → set next i r ≡ map f (take (i + 1) l) ++ drop (i + 1) l
   map-step l next i d {r} e h q =
       let v : r ≡ f (getD l i d) = q ∙ ap (λ x. f (getD x i d)) e ∙ ap f (map-at l i d h) in
       rw (e, v) (map-one l i d h)
@@ -137,7 +140,8 @@ put-index {A} p x (y ∷ ys) = step (p y) (put-index p x ys)
     step false e = ap (λ l. y ∷ l) e ∙ sym (ap (λ n. set (y ∷ ys) n x) (add-one (indexOf p ys)))
 
 -- it is the only place before which none passes and at which one does, or the end
-pub index-is : {A : Type 0} (p : A → Bool) (l : List A) (d : A) (i : ℕ) → i ≤ length l → ((j : ℕ) → j < i → p (getD l j d) ≡ false) → (i < length l → p (getD l i d) ≡ true) → i ≡ indexOf p l
+pub index-is : {A : Type 0} (p : A → Bool) (l : List A) (d : A) (i : ℕ) → i ≤ length l → ((j : ℕ) → j < i → p (getD l j d) ≡ false)
+    → (i < length l → p (getD l i d) ≡ true) → i ≡ indexOf p l
 unfolding indexOf
 index-is p [] d i h f g = omega arith
 index-is p (x ∷ xs) d zero h f g = rw (g (omega arith)) refl
@@ -152,7 +156,8 @@ unfolding indexOf
 index-passes p [] d h = absurd (omega arith)
 index-passes {A} p (y ∷ ys) d h = step (p y) refl (λ k. index-passes p ys d k) h
   where
-    step : (b : Bool) → p y ≡ b → (indexOf p ys < length ys → T (p (getD ys (indexOf p ys) d))) → cond b 0 (indexOf p ys + 1) < suc (length ys) → T (p (getD (y ∷ ys) (cond b 0 (indexOf p ys + 1)) d))
+    step : (b : Bool) → p y ≡ b → (indexOf p ys < length ys → T (p (getD ys (indexOf p ys) d))) → cond b 0 (indexOf p ys + 1) < suc (length ys)
+        → T (p (getD (y ∷ ys) (cond b 0 (indexOf p ys + 1)) d))
     step true e below k = rw e tt
     step false e below k = subst (λ n. T (p (getD (y ∷ ys) n d))) (sym (add-one (indexOf p ys))) (below (omega arith))
 
@@ -205,7 +210,8 @@ unfolding keep
 keep-map p g [] = refl
 keep-map p g (x ∷ xs) = step (p (g x)) (keep-map p g xs)
   where
-    step : (b : Bool) → keep p (map g xs) ≡ map g (keep (λ y. p (g y)) xs) → cond b (g x ∷ keep p (map g xs)) (keep p (map g xs)) ≡ map g (cond b (x ∷ keep (λ y. p (g y)) xs) (keep (λ y. p (g y)) xs))
+    step : (b : Bool) → keep p (map g xs) ≡ map g (keep (λ y. p (g y)) xs)
+        → cond b (g x ∷ keep p (map g xs)) (keep p (map g xs)) ≡ map g (cond b (x ∷ keep (λ y. p (g y)) xs) (keep (λ y. p (g y)) xs))
     step true e = ap (λ l. g x ∷ l) e
     step false e = e
 

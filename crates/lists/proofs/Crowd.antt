@@ -13,7 +13,8 @@ one-is : (g : ℕ → ℕ) (x n : ℕ) → ((i : ℕ) × (i < n) × (g i ≡ x))
 one-is g x zero = inr (λ i h e. omega arith)
 one-is g x (suc n) = go (one-is g x n) (decEq (g n) x)
   where
-    go : ((i : ℕ) × (i < n) × (g i ≡ x)) ⊎ ((i : ℕ) → i < n → g i ≡ x → ⊥) → Dec (g n ≡ x) → ((i : ℕ) × (i < suc n) × (g i ≡ x)) ⊎ ((i : ℕ) → i < suc n → g i ≡ x → ⊥)
+    go : ((i : ℕ) × (i < n) × (g i ≡ x)) ⊎ ((i : ℕ) → i < n → g i ≡ x → ⊥) → Dec (g n ≡ x)
+        → ((i : ℕ) × (i < suc n) × (g i ≡ x)) ⊎ ((i : ℕ) → i < suc n → g i ≡ x → ⊥)
     go (inl k) d = inl (k .0, omega (arith, k .1), k .2)
     go (inr f) (yes e) = inl (n, omega arith, e)
     go (inr f) (no e) = inr (λ i h q. last i h q (decEq i n))
@@ -78,7 +79,8 @@ crowd (suc m) n g f d = go (λ k h e. crowd m (n - 1) (skip g k) (lower k h e) (
         let t = skip-is g k j in
         d (s .0) (t .0) (order k i j (s .0) (t .0) l (s .2) (t .2)) (far k j (t .0) (t .2) h .0) (sym (s .1) ∙ q ∙ t .1)
 
-    go : ((k : ℕ) → k < n → g k ≡ m → n - 1 ≤ m) → (((i : ℕ) → i < n → g i ≡ m → ⊥) → n ≤ m) → ((i : ℕ) × (i < n) × (g i ≡ m)) ⊎ ((i : ℕ) → i < n → g i ≡ m → ⊥) → n ≤ suc m
+    go : ((k : ℕ) → k < n → g k ≡ m → n - 1 ≤ m) → (((i : ℕ) → i < n → g i ≡ m → ⊥) → n ≤ m)
+        → ((i : ℕ) × (i < n) × (g i ≡ m)) ⊎ ((i : ℕ) → i < n → g i ≡ m → ⊥) → n ≤ suc m
     go some none (inl k) = let z = some (k .0) (k .1) (k .2) in omega arith
     go some none (inr f) = let z = none f in omega arith
 
@@ -87,7 +89,8 @@ with-first : ℕ → (ℕ → ℕ) → ℕ → ℕ
 with-first q g zero = q
 with-first q g (suc i) = g i
 
-pub filled : (n : ℕ) (g : ℕ → ℕ) → ((i : ℕ) → i < n → g i < n) → ((i j : ℕ) → i < j → j < n → g i ≡ g j → ⊥) → (q : ℕ) → q < n → (i : ℕ) × (i < n) × (g i ≡ q)
+pub filled : (n : ℕ) (g : ℕ → ℕ) → ((i : ℕ) → i < n → g i < n) → ((i j : ℕ) → i < j → j < n → g i ≡ g j → ⊥) → (q : ℕ) → q < n
+    → (i : ℕ) × (i < n) × (g i ≡ q)
 unfolding with-first
 filled n g f d q h = go (one-is g q n)
   where

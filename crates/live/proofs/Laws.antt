@@ -41,7 +41,8 @@ tasks-next live n =
     ∙ ap (λ x. map (taskAt live) (range 0 n) ++ (taskAt live x ∷ [])) z
 
 -- A TEST that no task passes which has finished: only the first ones are looked at
-pub some-after : (live : List ℕ) (p : Task → Bool) (n k : ℕ) → k ≤ n → ((i : ℕ) → k ≤ i → i < n → p (taskAt live i) ≡ false) → some? p (tasksOf n live) ≡ some? p (tasksOf k live)
+pub some-after : (live : List ℕ) (p : Task → Bool) (n k : ℕ) → k ≤ n → ((i : ℕ) → k ≤ i → i < n → p (taskAt live i) ≡ false)
+    → some? p (tasksOf n live) ≡ some? p (tasksOf k live)
 some-after live p zero k h f = let z : k ≡ 0 = omega arith in rw z
 some-after live p (suc n) k h f = go (λ q. some-after live p n k q (λ i l m. f i l (omega arith))) (decLe k n)
   where

@@ -1,4 +1,4 @@
--- The board inside a run: its device and clock, its live table, and the records that are brought up to date at the end: code-level definitions; no promise of a public call cites them. Assumes nothing.
+-- The board inside a run: device and clock, live table, and the records as booked: code-level definitions; no promise of a public call cites them. Assumes nothing.
 use Prim.Native.Nat.{ℕ, _<_}
 use mathlib.Core.Path.{_≡_}
 use mathlib.Core.Bool.{true, cond}
