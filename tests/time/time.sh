@@ -20,7 +20,7 @@ case $plan in */*) ;; *) [ -f "$plan" ] && plan=./$plan ;; esac
 for tool in rustc python3; do command -v $tool >/dev/null || fail "$tool is not here"; done
 work=$(mktemp -d) || fail "no temporary folder"
 trap 'rm -rf "$work"' EXIT
-rustc -O --edition 2021 "$here/generate.rs" -o "$work/generate" || fail "generate.rs does not compile"
+rustc -O --edition 2021 "$here/../compare/generate.rs" -o "$work/generate" || fail "generate.rs does not compile"
 for baseline in baseline_slots baseline_plan; do
     rustc -C opt-level=3 --edition 2021 "$here/$baseline.rs" -o "$work/$baseline" || fail "$baseline.rs does not compile"
 done

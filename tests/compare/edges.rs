@@ -1,7 +1,7 @@
 //! edges: a fixed recording (event records on standard output): the edges of every number range of document 01, its cases 10, 11
 //! and 12, and every set of refusals that one submission can have at once, on the board of zeros, on a board with one task and on
 //! one with 64. `crates/plan/stdin` begins with it; `second` says what `plan` has to print.
-//! Build: `rustc -O --edition 2021 tests/second/edges.rs -o edges` (std only).
+//! Build: `rustc -O --edition 2021 tests/compare/edges.rs -o edges` (std only).
 
 use std::io::Write;
 

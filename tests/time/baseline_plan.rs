@@ -1,8 +1,9 @@
-//! baseline_slots: the job of `plan` as a plain, good Rust program, to time `plan` against (`time.sh`). A `&mut` board changed in
+//! baseline_plan: the job of `plan` as a plain, good Rust program, to time `plan` against (`time.sh`). A board changed in
 //! place, no test of its soundness, no allocation after the start, input and output in blocks of 64 KiB, and the plain
-//! methods: a row of columns, one pass over it, the next finish by one pass over the 64 slots. No columns in words.
-//! It prints what `second` prints; `compare.sh` compares it like any other `plan`.
-//! Build: `rustc -C opt-level=3 --edition 2021 tests/second/baseline_slots.rs -o baseline_slots` (std only).
+//! methods: the live tasks in a vector, a row of columns and one pass over it, the next finish by one pass over the tasks.
+//! Columns are not kept in words. Every task knows its slot, though `plan` prints none.
+//! It prints what `second` prints; `tests/compare/compare.sh` compares it like any other `plan`.
+//! Build: `rustc -C opt-level=3 --edition 2021 tests/time/baseline_plan.rs -o baseline_plan` (std only).
 
 use std::io::{self, Read, Write};
 
@@ -26,13 +27,16 @@ struct Live {
     /// first column, from 0, and the first column past
     left: u16,
     right: u16,
+    slot: u8,
 }
 
 type Place = Option<(u16, u32)>;
 
 /// W is 0 until a board is made.
 struct Device {
-    slots: [Option<Live>; 64],
+    /// live tasks in no order, and a bit for each free slot
+    live: Vec<Live>,
+    free: u64,
     w: u16,
     h: u16,
     now: u32,
@@ -57,15 +61,12 @@ fn runs(taken: &[bool], mut f: impl FnMut(u16, u16)) {
 
 impl Device {
     fn empty() -> Device {
-        Device { slots: [None; 64], w: 0, h: 0, now: 0 }
-    }
-
-    fn live(&self) -> impl Iterator<Item = &Live> {
-        self.slots.iter().flatten()
+        Device { live: Vec::with_capacity(64), free: u64::MAX, w: 0, h: 0, now: 0 }
     }
 
     fn create(&mut self, w: u16, h: u16) -> u8 {
-        *self = Device::empty();
+        self.live.clear();
+        (self.free, self.w, self.h, self.now) = (u64::MAX, 0, 0, 0);
         if w == 0 || w > 256 || h == 0 || h > 1_024 {
             return 2;
         }
@@ -85,9 +86,12 @@ impl Device {
             return 12;
         }
         self.now = instant;
-        for slot in self.slots.iter_mut() {
-            if slot.is_some_and(|k| k.finish <= instant) {
-                *slot = None;
+        let mut i = 0;
+        while i < self.live.len() {
+            if self.live[i].finish <= instant {
+                self.remove(i);
+            } else {
+                i += 1;
             }
         }
         0
@@ -97,19 +101,18 @@ impl Device {
         if self.w == 0 {
             return 1;
         }
-        let now = self.now;
-        for slot in self.slots.iter_mut() {
-            if let Some(k) = slot {
-                if k.id == id {
-                    if k.start <= now {
-                        return 14;
-                    }
-                    *slot = None;
-                    return 0;
-                }
+        match self.live.iter().position(|k| k.id == id) {
+            None => 13,
+            Some(i) if self.live[i].start <= self.now => 14,
+            Some(i) => {
+                self.remove(i);
+                0
             }
         }
-        13
+    }
+
+    fn remove(&mut self, i: usize) {
+        self.free |= 1 << self.live.swap_remove(i).slot;
     }
 
     fn submit(&mut self, planner: u8, job: &Job) -> Result<(u16, u32), u8> {
@@ -128,18 +131,15 @@ impl Device {
         if job.e == 0 || job.e > 1_000_000 || job.d > 2_000_000_000 {
             return Err(6);
         }
-        let mut free = None;
-        for (i, slot) in self.slots.iter().enumerate() {
-            match slot {
-                Some(k) if k.id == job.id => return Err(7),
-                Some(_) => {}
-                None => free = free.or(Some(i)),
-            }
+        if self.live.iter().any(|k| k.id == job.id) {
+            return Err(7);
         }
         if job.d < self.now + job.e {
             return Err(8);
         }
-        let Some(slot) = free else { return Err(9) };
+        if self.live.len() == 64 {
+            return Err(9);
+        }
         let place = match planner {
             0 => self.reference(self.now, job),
             1 => self.horizon(job),
@@ -147,7 +147,9 @@ impl Device {
             _ => self.full(job),
         };
         let Some((left, start)) = place else { return Err(10) };
-        self.slots[slot] = Some(Live { id: job.id, start, finish: start + job.e, left, right: left + job.w });
+        let slot = self.free.trailing_zeros() as u8;
+        self.free &= self.free - 1;
+        self.live.push(Live { id: job.id, start, finish: start + job.e, left, right: left + job.w, slot });
         Ok((left + 1, start))
     }
 
@@ -155,7 +157,7 @@ impl Device {
     #[inline]
     fn taken(&self, which: impl Fn(&Live) -> bool) -> [bool; 256] {
         let mut row = [false; 256];
-        for k in self.live() {
+        for k in &self.live {
             if which(k) {
                 row[k.left as usize..k.right as usize].fill(true);
             }
@@ -165,12 +167,12 @@ impl Device {
 
     /// The least finish after t that is not after `last`.
     fn next_finish(&self, t: u32, last: u32) -> Option<u32> {
-        self.live().map(|k| k.finish).filter(|f| *f > t && *f <= last).min()
+        self.live.iter().map(|k| k.finish).filter(|f| *f > t && *f <= last).min()
     }
 
     fn clear(&self, left: u16, t: u32, job: &Job) -> bool {
         let (right, finish) = (left + job.w, t + job.e);
-        !self.live().any(|k| k.start < finish && t < k.finish && k.left < right && left < k.right)
+        !self.live.iter().any(|k| k.start < finish && t < k.finish && k.left < right && left < k.right)
     }
 
     /// The narrowest run of free columns at t whose left edge meets no task, the leftmost of equals.
@@ -202,7 +204,7 @@ impl Device {
     fn horizon(&self, job: &Job) -> Place {
         let last = job.d - job.e;
         let mut releases = [self.now; 256];
-        for k in self.live() {
+        for k in &self.live {
             for r in &mut releases[k.left as usize..k.right as usize] {
                 *r = (*r).max(k.finish);
             }

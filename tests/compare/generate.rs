@@ -2,7 +2,7 @@
 //!
 //!     generate PROFILE SEED EVENTS
 //!
-//! Build: `rustc -O --edition 2021 tests/second/generate.rs -o generate` (std only). It keeps a board of `model.rs` beside
+//! Build: `rustc -O --edition 2021 tests/compare/generate.rs -o generate` (std only). It keeps a board of `model.rs` beside
 //! the recording, so that most events mean something: withdrawals of tasks that wait or run, ids that are live, clocks that
 //! move to a finish or a start, one tick before it, to now, to now - 1. Each profile has boards for one planner and boards
 //! for all four, and a few events in a hundred that are refused. Profiles:

@@ -1,5 +1,5 @@
 // The planner of document 01 as one would first write it in Rust: a board changed in place, no test of its soundness.
-// Usage: baseline PLANNER WORKLOAD ROUNDS [stats]. It prints the checksum of all answers; workload 4 by Full is the method
+// Usage: baseline_calls PLANNER WORKLOAD ROUNDS [stats]. It prints the checksum of all answers; workload 4 by Full is the method
 // "every column at every visited time" on a board where no place exists. For workloads 5 and 6, lists of openings, PLANNER is
 // the number of the board.
 use std::env;

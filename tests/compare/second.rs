@@ -1,6 +1,6 @@
 //! second: the independent second program. It reads event records on standard input and prints what `plan` has to print by
 //! document 01, so that the two can be compared byte for byte (`compare.sh`). Written from document 01 alone; the rules
-//! stand in `model.rs`. Build: `rustc -O --edition 2021 tests/second/second.rs -o second` (std only).
+//! stand in `model.rs`. Build: `rustc -O --edition 2021 tests/compare/second.rs -o second` (std only).
 //!
 //!     second [--check] [--counts]              the lines of `plan`
 //!     second horizon                           these five read the records in silence, then answer about the board as it
