@@ -12,9 +12,10 @@ use Rattle.tasks.specs.declared.Submission.{Submission}
 use Rattle.board.specs.declared.Board.{Board}
 use Rattle.board.specs.declared.Listed.{Listed}
 use Rattle.board.specs.declared.Opened.{Opened}
-use Rattle.board.specs.Refusals.{_when_, soundBoard, horizonOf, refusedHorizon, refusedOpenings}
+use Rattle.refusals.specs.Refusals.{horizonTests}
+use Rattle.board.specs.Refusals.{soundBoard, horizonOf, refusedHorizon, refusedOpenings}
 use Rattle.board.specs.Calls.{orRefused, remaining, opened, listed}
-use Rattle.board.proofs.Refusals.{none-holds}
+use Rattle.refusals.proofs.First.{none-holds}
 
 -- three words a run
 listed-fits : (b : Board) (words : ℕ) → listed b words .count * 3 ≤ words
@@ -23,7 +24,7 @@ listed-fits b words = go (refusedHorizon b words) refl
   where
     go : (k : ℕ) → refusedHorizon b words ≡ k → (orRefused {A = Listed} k (λ j. record { number = j; count = 0; board = b }) (record { number = 0; count = length (horizonOf b); board = b })) .count * 3 ≤ words
     go zero e =
-        let rest = none-holds 1 (not (soundBoard b)) ((17 when ltb words (3 * length (horizonOf b))) ∷ []) (λ z. omega arith) e .1 in
+        let rest = none-holds 1 (not (soundBoard b)) (horizonTests (length (horizonOf b)) words) (λ z. omega arith) e .1 in
         let fits = none-holds 17 (ltb words (3 * length (horizonOf b))) [] (λ z. omega arith) rest .0 in
         omega (arith, ltb-false words (3 * length (horizonOf b)) (is-false (ltb words (3 * length (horizonOf b))) fits))
     go (suc k) e = omega arith

@@ -3,6 +3,7 @@
 ghost use mathlib.Core.Path.{_≡_};
 ghost use Prim.Native.Nat.{_+_, _-_, _*_, _≤_, _<_};
 ghost use lib.ListN.{length};
+ghost use Rattle.session.specs.Recording.{mostEvents};
 ghost use Rattle.ask.specs.Asked.{Stands};
 use board::Board;
 use libc::STDERR_FILENO;
@@ -10,6 +11,7 @@ use libc::STDIN_FILENO;
 use libc::STDOUT_FILENO;
 use questions::Question;
 use session::Ran;
+use steps::State;
 use streams::Told;
 use tasks::Submission;
 
@@ -95,7 +97,7 @@ fn is_wrong(question: Question) -> bool {
 
 // Where the program stands: the bytes from `from` to `to` wait; the events so far; whether to go on. Where it stopped at a record
 // that is cut short or of no known kind, `end` is 15 or 16 and `kind` its kind byte; 1 where the input cannot be read.
-struct State {
+struct Stream {
     from: usize,
     to: usize,
     number: u32,
@@ -104,10 +106,10 @@ struct State {
     kind: u8,
 }
 
-fn stopped(s: State, end: u8, kind: u8) -> State
+fn stopped(s: Stream, end: u8, kind: u8) -> Stream
     ensures { λ r. ⌜ (r .from ≡ s .from) × (r .to ≡ s .to) × (r .number ≡ s .number) ⌝ }
 {
-    State {
+    Stream {
         from: s.from,
         to: s.to,
         number: s.number,
@@ -119,8 +121,8 @@ fn stopped(s: State, end: u8, kind: u8) -> State
 
 // More of the input behind what is left of it. There is room for it, so 0 bytes are the end of the input, and there a record
 // that is cut short is 15. A read that fails is not the end.
-fn read_on(bytes: &mut [u8], s: State, last: Told) -> State
-    requires { ⌜ Stands (length (now bytes)) s × (s .to - s .from < length (now bytes)) × (s .number < 1000000000) ⌝ }
+fn read_on(bytes: &mut [u8], s: Stream, last: Told) -> Stream
+    requires { ⌜ Stands (length (now bytes)) s × (s .to - s .from < length (now bytes)) × (s .number < mostEvents) ⌝ }
     ensures { λ r. ⌜ Stands (length (now (bytes .entry))) r ⌝ }
 {
     let left = streams::carry(bytes, s.from, s.to);
@@ -133,7 +135,7 @@ fn read_on(bytes: &mut [u8], s: State, last: Told) -> State
         return stopped(s, last.number, last.kind);
     }
     let n = io::count(got, &bytes[left..]);
-    State {
+    Stream {
         from: 0,
         to: left + n,
         number: s.number,
@@ -144,11 +146,11 @@ fn read_on(bytes: &mut [u8], s: State, last: Told) -> State
 }
 
 // What is to be done where a run has stopped: the last event, a record of no known kind, or more of the input.
-fn step(bytes: &mut [u8], s: State) -> State
+fn step(bytes: &mut [u8], s: Stream) -> Stream
     requires { ⌜ (18 ≤ length (now bytes)) × Stands (length (now bytes)) s ⌝ }
     ensures { λ r. ⌜ Stands (length (now (bytes .entry))) r ⌝ }
 {
-    if s.number == 1000000000 {
+    if s.number == session::MOST_EVENTS {
         return stopped(s, 0, 0);
     }
     let to = s.to;
@@ -164,21 +166,21 @@ fn step(bytes: &mut [u8], s: State) -> State
 }
 
 // The whole records of the bytes that wait, as far as there is room for their lines, which nobody reads.
-fn run_on(board: Board, bytes: &[u8], words: &mut [u32], s: State) -> Ran
+fn run_on(state: State, bytes: &[u8], words: &mut [u32], s: Stream) -> Ran
     requires { ⌜ Stands (length (now bytes)) s ⌝ }
-    ensures { λ r. ⌜ (s .from + r .taken ≤ s .to) × (s .number + r .count ≤ 1000000000) ⌝ }
+    ensures { λ r. ⌜ (s .from + r .taken ≤ s .to) × (s .number + r .count ≤ mostEvents) ⌝ }
 {
     let from = s.from;
     let to = s.to;
-    session::run(board, s.number, &bytes[from..to], words)
+    session::run(state, s.number, &bytes[from..to], words)
 }
 
 // Where the program stands after a run: so many events and bytes more.
-fn advanced(s: State, count: usize, taken: usize) -> State
-    requires { ⌜ (s .from + taken ≤ s .to) × (s .number + count ≤ 1000000000) ⌝ }
+fn advanced(s: Stream, count: usize, taken: usize) -> Stream
+    requires { ⌜ (s .from + taken ≤ s .to) × (s .number + count ≤ mostEvents) ⌝ }
     ensures { λ r. ⌜ (r .from ≡ s .from + taken) × (r .to ≡ s .to) × (r .number ≡ s .number + count) ⌝ }
 {
-    State {
+    Stream {
         from: s.from + taken,
         to: s.to,
         number: s.number + count as u32,
@@ -205,13 +207,12 @@ struct Recording {
 
 // "reads event records from standard input as `plan` does, in silence".
 fn recorded() -> Recording
-    ensures { λ r. ⌜ r .number ≤ 1000000000 ⌝ }
+    ensures { λ r. ⌜ r .number ≤ mostEvents ⌝ }
 {
     let mut bytes = io::large_buffer();
     let mut words = no_words();
-    let made = Board::new(0, 0);
-    let mut board = made.board;
-    let mut s = State {
+    let mut state = steps::first_state();
+    let mut s = Stream {
         from: 0,
         to: 0,
         number: 0,
@@ -221,14 +222,15 @@ fn recorded() -> Recording
     };
     let mut turns = u64::MAX;
     while 0 < turns {
-        let r = run_on(board, &bytes, &mut words, s);
-        let after = r.board;
-        board = after;
+        let r = run_on(state, &bytes, &mut words, s);
+        let after = r.state;
+        state = after;
         s = step(&mut bytes, advanced(s, r.count, r.taken));
         turns = streams::turns_left(s.more, turns);
     }
+    let at_end = state.board;
     Recording {
-        board: board,
+        board: at_end,
         number: s.number,
         end: s.end,
         kind: s.kind,
@@ -237,7 +239,7 @@ fn recorded() -> Recording
 
 // "a message on standard error names the event". Of an input that cannot be read, `read_on` has told.
 fn halted(r: Recording)
-    requires { ⌜ r .number ≤ 1000000000 ⌝ }
+    requires { ⌜ r .number ≤ mostEvents ⌝ }
 {
     if r.end == 1 {
         return;

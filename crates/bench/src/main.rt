@@ -1,4 +1,4 @@
-// The benchmark (tests/bench.sh): sessions drawn by a small generator. A line of standard input is nine bytes: a digit for the
+// The benchmark (tests/time/bench.sh): sessions drawn by a small generator. A line of standard input is nine bytes: a digit for the
 // planner (for workloads 3, 5 and 6 the board), one for the workload, six for the number of rounds, and the end of the line.
 // Each is answered by a checksum.
 ghost use Prim.Native.Nat.{_≤_};
@@ -105,7 +105,7 @@ fn mixed(sum: u64, answer: Answer) -> u64 {
     }
 }
 
-// A session: the clock moved on (without the test of refusal 1, as in the run of a recording), a task submitted.
+// A session: the clock moved on, a task submitted.
 fn session(planner: u8, l: Load, rounds: u32) -> u64 {
     let created = Board::new(l.columns, 64);
     let mut board = created.board;
@@ -118,7 +118,7 @@ fn session(planner: u8, l: Load, rounds: u32) -> u64 {
         seed = s[4];
         clock = later(clock, pick(s[0], 0, l.step_more));
         round += 1;
-        let clocked = board.clock_untested(clock);
+        let clocked = board.clock(clock);
         let submitted = clocked.board.submit(planner, asked(s, l, clock, round));
         let answer = submitted.answer;
         sum = mixed(sum, answer);

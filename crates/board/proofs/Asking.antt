@@ -24,10 +24,11 @@ use Rattle.openings.proofs.Writing.{words-length}
 use Rattle.board.specs.declared.Board.{Board}
 use Rattle.board.specs.Refusals.{refusal, liveOf, soundBoard, refusedOpenings, refusedSubmit}
 use Rattle.board.specs.Calls.{orRefused, taken, submitted, remaining, opened, openedBuffer}
-use Rattle.board.proofs.Refusals.{sound-passes, passed-over}
+use Rattle.refusals.specs.Refusals.{openingsTests}
+use Rattle.refusals.proofs.First.{sound-passes, passed-over}
 use Rattle.board.proofs.Kept.{SoundBoard}
 use Rattle.board.proofs.Submit.{accepted-answered}
-use Rattle.board.proofs.Window.{Reachable, windowTests}
+use Rattle.board.proofs.Window.{Reachable}
 
 -- n openings as they are read from the front of a buffer: start, column
 pub pairsFrom : ℕ → List ℕ → List Place
@@ -43,10 +44,10 @@ read-back (p ∷ ps) ws = ap (λ qs. pair (p .start) (p .place) ∷ qs) (read-ba
 pub not-refused : (b : Board) (a : Submission) → SoundBoard b → Reachable b a → refusedOpenings b a ≡ 0
 unfolding refusedOpenings
 not-refused b a s k =
-    let sized = and-i (within 1 (b .columns) (a .w)) (within 1 (b .rows) (a .h)) (within-in 1 (b .columns) (a .w) (k .w)) (within-in 1 (b .rows) (a .h) (k .h)) in
+    let sized = and-i (within 1 (b .device .columns) (a .w)) (within 1 (b .device .rows) (a .h)) (within-in 1 (b .device .columns) (a .w) (k .w)) (within-in 1 (b .device .rows) (a .h) (k .h)) in
     let timed = and-i (within 1 1000000 (a .e)) (leb (a .d) 2000000000) (within-in 1 1000000 (a .e) (k .e)) (le→leb (a .d) 2000000000 (k .d)) in
-    sound-passes b (windowTests b a) (is-true (soundBoard b) (sound-in (b .columns) (b .rows) (b .now) (b .tasks) s))
-    ∙ passed-over 5 (not (sizeFits (b .columns) (b .rows) (a .w) (a .h))) _ (ap not (is-true (sizeFits (b .columns) (b .rows) (a .w) (a .h)) sized))
+    sound-passes (soundBoard b) (openingsTests (b .device) (b .now) a) (is-true (soundBoard b) (sound-in (b .device) (b .now) (b .tasks) s))
+    ∙ passed-over 5 (not (sizeFits (b .device) (a .w) (a .h))) _ (ap not (is-true (sizeFits (b .device) (a .w) (a .h)) sized))
     ∙ passed-over 6 (not (timeFits (a .e) (a .d))) _ (ap not (is-true (timeFits (a .e) (a .d)) timed))
     ∙ passed-over 8 (ltb (a .d) (b .now + a .e)) [] (le-ltb (a .d) (b .now + a .e) (k .reachable))
     ∙ (unfold refusal in refl)
@@ -65,7 +66,7 @@ module _ (b : Board) (a : Submission) where
 
   -- the openings of document 01 on this board
   abbrev pub IsOpening : Place → Type 0
-  IsOpening = Opening (b .columns) (b .now) (liveOf b) a
+  IsOpening = Opening (b .device .columns) (b .now) (liveOf b) a
 
   module _ (s : SoundBoard b) (k : Reachable b a) where
     none-refused : refusedOpenings b a ≡ 0
@@ -94,21 +95,21 @@ module _ (b : Board) (a : Submission) where
     -- AN OPENING IS IN THE LIST EXACTLY WHEN it starts from now on, lies within the device, overlaps no live task, meets the deadline, and comes after the pair
     pub left-opens : (p q : Place) → q ∈ left p → IsOpening q × Before p q
     unfolding remaining
-    left-opens p q m = after-listed (b .columns) (b .now) (liveOf b) a p q m
+    left-opens p q m = after-listed (b .device .columns) (b .now) (liveOf b) a p q m
 
     pub opens-left : (p q : Place) → IsOpening q → Before p q → q ∈ left p
     unfolding remaining
-    opens-left p q o c = listed-after (b .columns) (b .now) (liveOf b) a p q o c
+    opens-left p q o c = listed-after (b .device .columns) (b .now) (liveOf b) a p q o c
 
     -- EACH EXACTLY ONCE, BY START AND THEN COLUMN
     pub left-ordered : (p : Place) → Sorted Before (left p)
     unfolding remaining
-    left-ordered p = after-ordered (b .columns) (b .now) (liveOf b) a p
+    left-ordered p = after-ordered (b .device .columns) (b .now) (liveOf b) a p
 
     -- what comes after the last pair given is what is left
     after-given : (p : Place) (buffer : List ℕ) → left (lastOr p (given p buffer)) ≡ drop (length buffer / 2) (left p)
     unfolding remaining
-    after-given p buffer = ap (λ ps. left (lastOr p ps)) (given-first p buffer) ∙ after-last (b .columns) (b .now) (liveOf b) a (length buffer / 2) p
+    after-given p buffer = ap (λ ps. left (lastOr p ps)) (given-first p buffer) ∙ after-last (b .device .columns) (b .now) (liveOf b) a (length buffer / 2) p
 
     -- TWO CALLS NEVER BOTH MISS ONE: an opening after the pair is given, or comes after the last one given
     pub none-missed : (p q : Place) (buffer : List ℕ) → IsOpening q → Before p q → (q ∈ given p buffer) ⊎ Before (lastOr p (given p buffer)) q
@@ -143,10 +144,10 @@ module _ (b : Board) (a : Submission) where
         go next false e = append-nil (given p buffer) ∙ given-first p buffer ∙ take-all k′ (left p) (ltb-false k′ (length (left p)) e)
 
     -- from (0, 0) on: every opening there is
-    pub asking-from-none : (n : ℕ) (buffer : List ℕ) → 2 ≤ length buffer → length (openings (b .columns) (b .now) (liveOf b) a) ≤ n → asking n (pair 0 0) buffer ≡ openings (b .columns) (b .now) (liveOf b) a
+    pub asking-from-none : (n : ℕ) (buffer : List ℕ) → 2 ≤ length buffer → length (openings (b .device .columns) (b .now) (liveOf b) a) ≤ n → asking n (pair 0 0) buffer ≡ openings (b .device .columns) (b .now) (liveOf b) a
     unfolding remaining
     asking-from-none n buffer h l =
-        let e = after-none (b .columns) (b .now) (liveOf b) a in
+        let e = after-none (b .device .columns) (b .now) (liveOf b) a in
         asking-all n (pair 0 0) buffer h (rw e l) ∙ e
 
     -- FULL TAKES THE FIRST that the call gives, and REJECTS EXACTLY WHEN it gives none
@@ -154,7 +155,7 @@ module _ (b : Board) (a : Submission) where
     unfolding planned full remaining
     full-takes-given buffer h e =
         accepted-answered b 3 a e
-        ∙ ap (taken b a) (ap head? (sym (after-none (b .columns) (b .now) (liveOf b) a)) ∙ first (left (pair 0 0)) (length buffer / 2) (omega arith) ∙ ap head? (sym (given-first (pair 0 0) buffer)))
+        ∙ ap (taken b a) (ap head? (sym (after-none (b .device .columns) (b .now) (liveOf b) a)) ∙ first (left (pair 0 0)) (length buffer / 2) (omega arith) ∙ ap head? (sym (given-first (pair 0 0) buffer)))
       where
         first : (ps : List Place) (k : ℕ) → 1 ≤ k → head? ps ≡ head? (take k ps)
         first [] zero h = refl

@@ -2,7 +2,7 @@
 use Prim.Native.Nat.{ℕ, zero, suc, _+_, _≤_, _<_}
 use mathlib.Core.Path.{_≡_, refl, sym, ap, _∙_, subst}
 use mathlib.Core.Logic.{_⊎_, inl, inr}
-use mathlib.Core.Bool.{false, not, _&&_}
+use mathlib.Core.Bool.{Bool, false, not, _&&_}
 use mathlib.Core.List.{[], _∷_, map}
 use mathlib.Core.Option.{Option, none, some}
 use native.Mathlib.Omega.{arith}
@@ -15,16 +15,17 @@ use Rattle.lists.proofs.Bools.{and-l, and-r, and-i, bool, not-not, is-true}
 use Rattle.lists.proofs.Members.{in-keep, none-pass, pass-some, getD-in}
 use Rattle.lists.proofs.Order.{sorted-at}
 use Rattle.lists.proofs.Append.{index-test, index-passes}
+use Rattle.tasks.specs.declared.Device.{Device}
 use Rattle.tasks.specs.declared.Task.{Task}
 use Rattle.tasks.specs.declared.Submission.{Submission}
-use Rattle.tasks.specs.Numbers.{within, deviceFits, sizeFits, timeFits}
-use Rattle.tasks.specs.Tasks.{finish, live, runningPhase, stamped, freeSlot, zeros, booked}
+use Rattle.tasks.specs.Numbers.{within, device, deviceFits, sizeFits, timeFits}
+use Rattle.tasks.specs.Tasks.{finish, live, waitingPhase, stamped, freeSlot, zeros, booked}
 use Rattle.tasks.proofs.Laws.{Between, within-out}
 use Rattle.planners.specs.Openings.{Place}
 use Rattle.planners.specs.Planners.{planned}
 use Rattle.planners.proofs.Openings.{Opening}
 use Rattle.planners.proofs.Planners.{planned-opens}
-use Rattle.slots.specs.Slots.{slotSound, sound, named, known, runsNamed, agedTo, allAgedTo, withoutNamed}
+use Rattle.slots.specs.Slots.{slotSound, sound, named, known, begunNamed, agedTo, allAgedTo, withoutNamed}
 use Rattle.slots.proofs.Soundness.{InPhase, running, waiting, SoundTask, Together, Sound, sound-out, sound-in}
 use Rattle.slots.proofs.Ageing.{stamped-live, stamped-phase, aged-free, aged-ended, aged-stands, aged-sound, aged-now, aged-twice}
 use Rattle.slots.proofs.Booking.{booked-sound, withdrawn-sound, booked-keeps, withdrawn-keeps, withdrawn-free}
@@ -33,13 +34,14 @@ use Rattle.board.specs.declared.Answer.the-variants.{Rejected, Refused}
 use Rattle.board.specs.declared.Submitted.{Submitted}
 use Rattle.board.specs.declared.Clocked.{Clocked}
 use Rattle.board.specs.declared.Withdrawn.{Withdrawn}
-use Rattle.board.specs.Refusals.{refusal, liveOf, soundBoard, passed, beyond, refusedSubmit, refusedInstant, refusedWithdraw, refusedCreate}
+use Rattle.board.specs.Refusals.{refusal, liveOf, soundBoard, refusedSubmit, refusedInstant, refusedWithdraw, refusedCreate}
 use Rattle.board.specs.Calls.{orRefused, withTasks, freshBoard, zeroBoard, created, withTask, taken, answered, submitted, boardAt, clocked, withdrawn}
-use Rattle.board.proofs.Refusals.{none-holds, passed-over, sound-passes}
+use Rattle.refusals.specs.Refusals.{instantTests}
+use Rattle.refusals.proofs.First.{none-holds, none-left, passed-over, sound-passes}
 
 -- a sound board, clause by clause
 abbrev pub SoundBoard : Board → Type 0
-SoundBoard b = Sound (b .columns) (b .rows) (b .now) (b .tasks)
+SoundBoard b = Sound (b .device) (b .now) (b .tasks)
 
 -- what stands in slot i
 abbrev pub slotAt : Board → ℕ → Task
@@ -50,8 +52,8 @@ pub record Accepted (b : Board) (n : ℕ) (a : Submission) : Type 0 where
   pub sound : SoundBoard b
   pub planner : n ≤ 3
   pub id : 1 ≤ a .id
-  pub w : Between 1 (b .columns) (a .w)
-  pub h : Between 1 (b .rows) (a .h)
+  pub w : Between 1 (b .device .columns) (a .w)
+  pub h : Between 1 (b .device .rows) (a .h)
   pub e : Between 1 1000000 (a .e)
   pub d : a .d ≤ 2000000000
   pub new : (l : Task) → l ∈ b .tasks → T (live l) → l .id ≡ a .id → ⊥
@@ -69,14 +71,14 @@ submit-accepted b n a e =
     let r7 = none-holds 7 _ _ (omega arith) (r6 .1) in
     let r8 = none-holds 8 _ _ (omega arith) (r7 .1) in
     let r9 = none-holds 9 _ _ (omega arith) (r8 .1) in
-    let five = not-not (sizeFits (b .columns) (b .rows) (a .w) (a .h)) (r5 .0) in
+    let five = not-not (sizeFits (b .device) (a .w) (a .h)) (r5 .0) in
     let six = not-not (timeFits (a .e) (a .d)) (r6 .0) in
     record {
-      sound = sound-out (b .columns) (b .rows) (b .now) (b .tasks) (not-not (soundBoard b) (r1 .0));
+      sound = sound-out (b .device) (b .now) (b .tasks) (not-not (soundBoard b) (r1 .0));
       planner = nltb→le 3 n (r3 .0);
       id = positive (r4 .0);
-      w = within-out 1 (b .columns) (a .w) (and-l (within 1 (b .columns) (a .w)) (within 1 (b .rows) (a .h)) five);
-      h = within-out 1 (b .rows) (a .h) (and-r (within 1 (b .columns) (a .w)) (within 1 (b .rows) (a .h)) five);
+      w = within-out 1 (b .device .columns) (a .w) (and-l (within 1 (b .device .columns) (a .w)) (within 1 (b .device .rows) (a .h)) five);
+      h = within-out 1 (b .device .rows) (a .h) (and-r (within 1 (b .device .columns) (a .w)) (within 1 (b .device .rows) (a .h)) five);
       e = within-out 1 1000000 (a .e) (and-l (within 1 1000000 (a .e)) (leb (a .d) 2000000000) six);
       d = leb→le (a .d) 2000000000 (and-r (within 1 1000000 (a .e)) (leb (a .d) 2000000000) six);
       new = λ l m t q.
@@ -90,8 +92,8 @@ submit-accepted b n a e =
     positive h = let k : a .id ≡ 0 → ⊥ = λ z. T-not (eqb (a .id) 0) h (rw z tt) in omega arith
 
 -- the record as booked is a sound task, apart from every live one
-module _ (b : Board) (n : ℕ) (a : Submission) (big : a .id ≤ 4294967295) (k : Accepted b n a) (p : Place) (o : Opening (b .columns) (b .now) (liveOf b) a p) where
-  new-task : SoundTask (b .columns) (b .rows) (b .now) (booked (b .now) a (p .start) (p .place))
+module _ (b : Board) (n : ℕ) (a : Submission) (big : a .id ≤ 4294967295) (k : Accepted b n a) (p : Place) (o : Opening (b .device .columns) (b .now) (liveOf b) a p) where
+  new-task : SoundTask (b .device) (b .now) (booked (b .now) a (p .start) (p .place))
   unfolding booked stamped
   new-task =
       let l : b .now < p .start + a .e = omega (arith, o .from-now, k .e .low) in
@@ -117,14 +119,14 @@ pub submitted-sound : (b : Board) (n : ℕ) (a : Submission) → a .id ≤ 42949
 unfolding submitted answered orRefused taken withTask
 submitted-sound b n a big s = go (refusedSubmit b n a) refl
   where
-    place : (k : Accepted b n a) (r : Option Place) → planned (b .columns) (b .now) (liveOf b) a n ≡ r → SoundBoard (taken b a r .board)
+    place : (k : Accepted b n a) (r : Option Place) → planned (b .device .columns) (b .now) (liveOf b) a n ≡ r → SoundBoard (taken b a r .board)
     place k none e = s
     place k (some p) e =
-        let o = planned-opens (b .columns) (b .now) (liveOf b) a (k .reachable) n e in
-        booked-sound (b .columns) (b .rows) (b .now) (b .tasks) s (booked (b .now) a (p .start) (p .place)) (new-task b n a big k p o) (new-apart b n a big k p o)
+        let o = planned-opens (b .device .columns) (b .now) (liveOf b) a (k .reachable) n e in
+        booked-sound (b .device) (b .now) (b .tasks) s (booked (b .now) a (p .start) (p .place)) (new-task b n a big k p o) (new-apart b n a big k p o)
 
-    go : (r : ℕ) → refusedSubmit b n a ≡ r → SoundBoard (orRefused r (λ x. record { answer = Refused x; board = b }) (taken b a (planned (b .columns) (b .now) (liveOf b) a n)) .board)
-    go zero e = place (submit-accepted b n a e) (planned (b .columns) (b .now) (liveOf b) a n) refl
+    go : (r : ℕ) → refusedSubmit b n a ≡ r → SoundBoard (orRefused r (λ x. record { answer = Refused x; board = b }) (taken b a (planned (b .device .columns) (b .now) (liveOf b) a n)) .board)
+    go zero e = place (submit-accepted b n a e) (planned (b .device .columns) (b .now) (liveOf b) a n) refl
     go (suc r) e = s
 
 -- clock
@@ -140,7 +142,7 @@ instant-passable b i e =
     let r11 = none-holds 11 _ _ (omega arith) (r1 .1) in
     let r12 = none-holds 12 _ _ (omega arith) (r11 .1) in
     record {
-      sound = sound-out (b .columns) (b .rows) (b .now) (b .tasks) (not-not (soundBoard b) (r1 .0));
+      sound = sound-out (b .device) (b .now) (b .tasks) (not-not (soundBoard b) (r1 .0));
       from-now = nltb→le i (b .now) (r11 .0);
       until = nltb→le 2000000000 i (r12 .0);
     }
@@ -153,7 +155,7 @@ clocked-stays-sound b i s = go (refusedInstant b i) refl
     after r = orRefused r (λ x. record { number = x; board = b }) (record { number = 0; board = boardAt b i })
 
     go : (r : ℕ) → refusedInstant b i ≡ r → SoundBoard (after r .board)
-    go zero e = let k = instant-passable b i e in aged-sound (b .columns) (b .rows) (b .now) i (b .tasks) s (k .from-now) (k .until)
+    go zero e = let k = instant-passable b i e in aged-sound (b .device) (b .now) i (b .tasks) s (k .from-now) (k .until)
     go (suc r) e = s
 
 -- withdrawal
@@ -165,13 +167,13 @@ withdrawn-stays-sound b n s = go (refusedWithdraw b n)
     after r = orRefused r (λ x. record { number = x; board = b }) (record { number = 0; board = withTasks b (withoutNamed n (b .tasks)) })
 
     go : (r : ℕ) → SoundBoard (after r .board)
-    go zero = withdrawn-sound (b .columns) (b .rows) (b .now) (b .tasks) s n
+    go zero = withdrawn-sound (b .device) (b .now) (b .tasks) s n
     go (suc r) = s
 
 -- NOTHING MOVES. Submission: every live task stands in its slot as it was
 pub submitted-keeps : (b : Board) (n : ℕ) (a : Submission) (i : ℕ) → i < length (b .tasks) → T (live (slotAt b i)) → slotAt (submitted b n a .board) i ≡ slotAt b i
 unfolding submitted answered orRefused taken withTask
-submitted-keeps b n a i h t = go (refusedSubmit b n a) (planned (b .columns) (b .now) (liveOf b) a n)
+submitted-keeps b n a i h t = go (refusedSubmit b n a) (planned (b .device .columns) (b .now) (liveOf b) a n)
   where
     go : (r : ℕ) (o : Option Place) → slotAt (orRefused r (λ x. record { answer = Refused x; board = b }) (taken b a o) .board) i ≡ slotAt b i
     go zero none = refl
@@ -214,14 +216,14 @@ pub data Withdraws (now n : ℕ) (k k′ : Task) : Type 0 where
   gone : k .id ≡ n → now < k .start → k′ ≡ freeSlot → Withdraws now n k k′
 
 pub withdrawn-moves-none : (b : Board) (n i : ℕ) → i < length (b .tasks) → T (live (slotAt b i)) → Withdraws (b .now) n (slotAt b i) (slotAt (withdrawn b n .board) i)
-unfolding withdrawn orRefused refusedWithdraw runsNamed named
+unfolding withdrawn orRefused refusedWithdraw begunNamed named
 withdrawn-moves-none b n i h l = go (refusedWithdraw b n) refl
   where
     k : Task
     k = slotAt b i
 
     good : refusedWithdraw b n ≡ 0 → SoundBoard b
-    good e = let r1 = none-holds 1 _ _ (omega arith) e in sound-out (b .columns) (b .rows) (b .now) (b .tasks) (not-not (soundBoard b) (r1 .0))
+    good e = let r1 = none-holds 1 _ _ (omega arith) e in sound-out (b .device) (b .now) (b .tasks) (not-not (soundBoard b) (r1 .0))
 
     -- ids differ, so that the slot is the first of that id
     first : SoundBoard b → T (named n k) → indexOf (named n) (b .tasks) ≡ i
@@ -247,7 +249,7 @@ withdrawn-moves-none b n i h l = go (refusedWithdraw b n) refl
         order (no l) (yes q) = absurd (sorted-at Together live (b .tasks) freeSlot (s .together) i j q inside (lives k t) (lives (slotAt b j) u) .ids (id-of k t ∙ sym (id-of (slotAt b j) u)))
         order (no l) (no q) = omega arith
 
-    -- not refused by 14: no live task of the id is running
+    -- not refused by 14: no live task of the id has begun
     waits : refusedWithdraw b n ≡ 0 → T (named n k) → b .now < k .start
     waits e t =
         let r1 = none-holds 1 _ _ (omega arith) e in
@@ -255,9 +257,12 @@ withdrawn-moves-none b n i h l = go (refusedWithdraw b n) refl
         let r14 = none-holds 14 _ _ (omega arith) (r13 .1) in
         let s = good e in
         let m = getD-in (b .tasks) i freeSlot h in
-        phase (s .tasks k m l .phase) (λ q. T-not (named n k && runningPhase (k .phase)) (none-pass (λ x. named n x && runningPhase (x .phase)) (b .tasks) (r14 .0) m) (and-i (named n k) (runningPhase (k .phase)) t q))
+        phase (s .tasks k m l .phase) (λ q. T-not (begun k) (none-pass begun (b .tasks) (r14 .0) m) (and-i (named n k) (not (waitingPhase (k .phase))) t q))
       where
-        phase : InPhase (b .now) k → (T (runningPhase (k .phase)) → ⊥) → b .now < k .start
+        begun : Task → Bool
+        begun x = named n x && not (waitingPhase (x .phase))
+
+        phase : InPhase (b .now) k → (T (not (waitingPhase (k .phase))) → ⊥) → b .now < k .start
         phase (running e h) f = absurd (f (rw e tt))
         phase (waiting e h) f = h
 
@@ -291,7 +296,7 @@ refused-withdraw-same b n k e = rw e
 -- a rejection too
 pub rejected-same : (b : Board) (n : ℕ) (a : Submission) → submitted b n a .answer ≡ Rejected → submitted b n a .board ≡ b
 unfolding submitted answered orRefused taken
-rejected-same b n a e = go (refusedSubmit b n a) (planned (b .columns) (b .now) (liveOf b) a n) e
+rejected-same b n a e = go (refusedSubmit b n a) (planned (b .device .columns) (b .now) (liveOf b) a n) e
   where
     after : ℕ → Option Place → Submitted
     after r o = orRefused r (λ x. record { answer = Refused x; board = b }) (taken b a o)
@@ -301,39 +306,47 @@ rejected-same b n a e = go (refusedSubmit b n a) (planned (b .columns) (b .now) 
     go zero (some p) q = absurd (let z : _≡_ {A = ℕ} 0 1 = cc in omega arith)
     go (suc r) o q = refl
 
+-- an instant from now on, and not too late, is not refused
+pub instant-allowed : (b : Board) (i : ℕ) → SoundBoard b → b .now ≤ i → i ≤ 2000000000 → refusedInstant b i ≡ 0
+unfolding refusedInstant
+instant-allowed b i s l h =
+    sound-passes (soundBoard b) (instantTests (b .now) i) (is-true (soundBoard b) (sound-in (b .device) (b .now) (b .tasks) s))
+    ∙ passed-over 11 _ _ (le-ltb i (b .now) l) ∙ passed-over 12 _ _ (le-ltb 2000000000 i h) ∙ none-left
+
 -- the clock of a sound board, to an instant that is not refused
 pub clocked-done : (b : Board) (i : ℕ) → SoundBoard b → b .now ≤ i → i ≤ 2000000000 → clocked b i ≡ record { number = 0; board = boardAt b i }
-unfolding clocked refusedInstant orRefused
-clocked-done b i s l h =
-    rw (sound-passes b (passed b i ∷ beyond i ∷ []) (is-true (soundBoard b) (sound-in (b .columns) (b .rows) (b .now) (b .tasks) s)), passed-over 11 (ltb i (b .now)) (beyond i ∷ []) (le-ltb i (b .now) l), passed-over 12 (ltb 2000000000 i) [] (le-ltb 2000000000 i h))
-    (unfold refusal in refl)
+unfolding clocked orRefused
+clocked-done b i s l h = rw (instant-allowed b i s l h)
 
 -- CLOCK TO NOW CHANGES NOTHING
 pub clock-to-now : (b : Board) → SoundBoard b → clocked b (b .now) ≡ record { number = 0; board = b }
 unfolding boardAt
 clock-to-now b s =
     clocked-done b (b .now) s (omega arith) (s .clock)
-    ∙ ap (λ ks. record { number = 0; board = withTasks b ks }) (aged-now (b .columns) (b .rows) (b .now) (b .tasks) s)
+    ∙ ap (λ ks. record { number = 0; board = withTasks b ks }) (aged-now (b .device) (b .now) (b .tasks) s)
 
 -- TWO CLOCKS ONE AFTER THE OTHER ARE THE LATER ONE
 pub clock-twice : (b : Board) (i j : ℕ) → SoundBoard b → b .now ≤ i → i ≤ j → j ≤ 2000000000 → clocked (clocked b i .board) j ≡ clocked b j
 unfolding boardAt
 clock-twice b i j s l m h =
     let e : clocked b i .board ≡ boardAt b i = ap (λ r. r .board) (clocked-done b i s l (omega arith)) in
-    let t : SoundBoard (boardAt b i) = aged-sound (b .columns) (b .rows) (b .now) i (b .tasks) s l (omega arith) in
+    let t : SoundBoard (boardAt b i) = aged-sound (b .device) (b .now) i (b .tasks) s l (omega arith) in
     ap (λ x. clocked x j) e ∙ clocked-done (boardAt b i) j t m h
-    ∙ ap (λ ks. record { number = 0; board = record { tasks = ks; now = j; columns = b .columns; rows = b .rows } }) (aged-twice i j (b .tasks) m)
+    ∙ ap (λ ks. record { number = 0; board = record { tasks = ks; now = j; device = b .device } }) (aged-twice i j (b .tasks) m)
     ∙ sym (clocked-done b j s (omega arith) h)
 
 -- A NEW BOARD IS SOUND where its size is in range; otherwise it is the board of zeros, which is not
-pub created-sound : (W H : ℕ) → T (deviceFits W H) → SoundBoard (created W H .board)
+pub created-sound : (W H : ℕ) → T (deviceFits (device W H)) → SoundBoard (created W H .board)
 unfolding created refusedCreate orRefused freshBoard sound all? slotSound zeros pairwise? keep
-created-sound W H t = rw (passed-over 2 (not (deviceFits W H)) [] (ap not (is-true (deviceFits W H) t))) (unfold refusal in fresh)
+created-sound W H t = rw (passed-over 2 (not (deviceFits D)) [] (ap not (is-true (deviceFits D) t))) (unfold refusal in fresh)
   where
-    fresh : Sound W H 0 (replicate 64 freeSlot)
-    fresh = sound-out W H 0 (replicate 64 freeSlot) (rw (is-true (deviceFits W H) t) tt)
+    D : Device
+    D = device W H
 
-pub zero-board : zeroBoard ≡ record { tasks = replicate 64 freeSlot; now = 0; columns = 0; rows = 0 }
+    fresh : Sound D 0 (replicate 64 freeSlot)
+    fresh = sound-out D 0 (replicate 64 freeSlot) (rw (is-true (deviceFits D) t) tt)
+
+pub zero-board : zeroBoard ≡ record { tasks = replicate 64 freeSlot; now = 0; device = device 0 0 }
 unfolding freshBoard
 zero-board = refl
 

@@ -1,5 +1,4 @@
-pub mod Refusals
-pub mod Untested
+pub mod Tested
 pub mod Kept
 pub mod Submit
 pub mod Placed

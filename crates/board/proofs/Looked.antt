@@ -24,10 +24,9 @@ use Rattle.lookups.proofs.Busy.{busy-held}
 use Rattle.board.specs.declared.Board.{Board}
 use Rattle.board.specs.declared.Listed.{Listed}
 use Rattle.board.specs.declared.Counted.{Counted}
-use Rattle.board.specs.Refusals.{refusal, liveOf, soundBoard, passed, beyond, refusedInstant, refusedHorizon, horizonOf}
+use Rattle.board.specs.Refusals.{refusal, liveOf, soundBoard, refusedInstant, refusedHorizon, horizonOf}
 use Rattle.board.specs.Calls.{orRefused, listed, listedBuffer, counted}
-use Rattle.board.proofs.Refusals.{sound-passes, passed-over}
-use Rattle.board.proofs.Kept.{SoundBoard}
+use Rattle.board.proofs.Kept.{SoundBoard, instant-allowed}
 
 -- A REFUSED CALL: its number, count 0, the same board; every word as it was
 pub refused-horizon-same : (b : Board) (buffer : List ℕ) (k : ℕ) → refusedHorizon b (length buffer) ≡ suc k
@@ -52,7 +51,7 @@ pub counted-board : (b : Board) (i : ℕ) → counted b i .board ≡ b
 unfolding counted
 counted-board b i = go (refusedInstant b i)
   where
-    go : (r : ℕ) → orRefused {A = Counted} r (λ k. record { number = k; count = 0; board = b }) (record { number = 0; count = busyColumns (b .columns) (liveOf b) i; board = b }) .board ≡ b
+    go : (r : ℕ) → orRefused {A = Counted} r (λ k. record { number = k; count = 0; board = b }) (record { number = 0; count = busyColumns (b .device .columns) (liveOf b) i; board = b }) .board ≡ b
     go zero = unfold orRefused in refl
     go (suc r) = unfold orRefused in refl
 
@@ -61,8 +60,8 @@ abbrev pub runningOf : Board → List Task
 runningOf b = keep (λ k. runningPhase (k .phase)) (b .tasks)
 
 -- BUSY AT NOW are the columns of the running tasks
-pub busy-running : (b : Board) → SoundBoard b → busyColumns (b .columns) (liveOf b) (b .now) ≡ length (keep (λ c. some? (covers c) (runningOf b)) (columns (b .columns)))
-busy-running b s = busy-held (b .columns) (liveOf b) (b .now) ∙ ap (λ p. length (keep p (columns (b .columns)))) (fun-ext same)
+pub busy-running : (b : Board) → SoundBoard b → busyColumns (b .device .columns) (liveOf b) (b .now) ≡ length (keep (λ c. some? (covers c) (runningOf b)) (columns (b .device .columns)))
+busy-running b s = busy-held (b .device .columns) (liveOf b) (b .now) ∙ ap (λ p. length (keep p (columns (b .device .columns)))) (fun-ext same)
   where
     runs : Task → Bool
     runs k = runningPhase (k .phase)
@@ -101,11 +100,11 @@ busy-running b s = busy-held (b .columns) (liveOf b) (b .now) ∙ ap (λ p. leng
     same c = same-bool (some? (holds (b .now) c) (liveOf b)) (some? (covers c) (runningOf b)) (to c) (from c)
 
 -- so the call answers at now
-pub counted-now : (b : Board) → SoundBoard b → counted b (b .now) ≡ record { number = 0; count = length (keep (λ c. some? (covers c) (runningOf b)) (columns (b .columns))); board = b }
-unfolding counted refusedInstant orRefused
+pub counted-now : (b : Board) → SoundBoard b → counted b (b .now) ≡ record { number = 0; count = length (keep (λ c. some? (covers c) (runningOf b)) (columns (b .device .columns))); board = b }
+unfolding counted orRefused
 counted-now b s =
-    rw (sound-passes b (passed b (b .now) ∷ beyond (b .now) ∷ []) (is-true (soundBoard b) (sound-in (b .columns) (b .rows) (b .now) (b .tasks) s)), passed-over 11 (ltb (b .now) (b .now)) (beyond (b .now) ∷ []) (le-ltb (b .now) (b .now) (omega arith)), passed-over 12 (ltb 2000000000 (b .now)) [] (le-ltb 2000000000 (b .now) (s .clock)))
-    (unfold refusal in ap (λ n. record { number = 0; count = n; board = b }) (busy-running b s))
+    rw (instant-allowed b (b .now) s (omega arith) (s .clock))
+    (ap (λ n. record { number = 0; count = n; board = b }) (busy-running b s))
 
 map-still : (f : Task → Task) (ks : List Task) → ((k : Task) → k ∈ ks → f k ≡ k) → map f ks ≡ ks
 map-still f [] g = refl
@@ -113,7 +112,7 @@ map-still f (k ∷ ks) g = let r = map-still f ks (λ l m. g l (there m)) in rw 
 
 -- STAMPING AT NOW leaves the live records of a sound board as they are
 pub stamp-live : (b : Board) → SoundBoard b → stampedAll (b .now) (liveOf b) ≡ liveOf b
-stamp-live b s = map-still (stamped (b .now)) (liveOf b) (λ k m. let n = keep-in live (b .tasks) m in still (b .columns) (b .rows) (b .now) k (s .tasks k (n .0) (n .1)))
+stamp-live b s = map-still (stamped (b .now)) (liveOf b) (λ k m. let n = keep-in live (b .tasks) m in still (b .device) (b .now) k (s .tasks k (n .0) (n .1)))
 
 -- and its free slots too
 pub stamp-slots : (b : Board) → SoundBoard b → stampedAll (b .now) (b .tasks) ≡ b .tasks
@@ -123,5 +122,5 @@ stamp-slots b s = map-still (stamped (b .now)) (b .tasks) (λ k m. each k m (boo
     free = unfold stamped in ap (λ p. inPhase p freeSlot) (phase-ended (b .now) freeSlot (omega arith))
 
     each : (k : Task) → k ∈ b .tasks → T (live k) ⊎ T (not (live k)) → stamped (b .now) k ≡ k
-    each k m (inl l) = still (b .columns) (b .rows) (b .now) k (s .tasks k m l)
+    each k m (inl l) = still (b .device) (b .now) k (s .tasks k m l)
     each k m (inr l) = let e = s .free k m l in ap (stamped (b .now)) e ∙ free ∙ sym e

@@ -33,20 +33,16 @@ use Rattle.board.specs.declared.Board.{Board}
 use Rattle.board.specs.declared.Answer.the-variants.{Rejected, Placed, Refused}
 use Rattle.board.specs.declared.Submitted.{Submitted}
 use Rattle.board.specs.Answers.{told}
-use Rattle.board.specs.Refusals.{Test, _when_, refusal, liveOf, soundBoard, badSize, badTime, tooLate, refusedSubmit}
+use Rattle.board.specs.Refusals.{refusal, liveOf, soundBoard, refusedSubmit}
 use Rattle.board.specs.Calls.{orRefused, withTasks, withTask, taken, answered, submitted}
-use Rattle.board.specs.Untested.{submittedBooked}
-use Rattle.board.proofs.Refusals.{sound-passes, unsound-refused}
+use Rattle.board.specs.Standing.{submittedBooked}
+use Rattle.refusals.specs.Refusals.{submitTests}
+use Rattle.refusals.proofs.First.{sound-passes, unsound-refused}
 use Rattle.board.proofs.Kept.{SoundBoard, Accepted, submit-accepted}
-
--- the tests after test 1, as the code makes them: `used` says that a live task has the id, `count` is 64 or more exactly if no slot is free
-abbrev pub testsAfter : Board → ℕ → Submission → Bool → ℕ → List Test
-testsAfter b n a used count =
-    (3 when ltb 3 n) ∷ (4 when eqb (a .id) 0) ∷ badSize b a ∷ badTime a ∷ (7 when used) ∷ tooLate b a ∷ (9 when leb 64 count) ∷ []
 
 pub submit-unsound : (b : Board) (n : ℕ) (a : Submission) → soundBoard b ≡ false → submitted b n a ≡ record { answer = Refused 1; board = b }
 unfolding submitted refusedSubmit orRefused
-submit-unsound b n a e = rw (unsound-refused b (testsAfter b n a (known (a .id) (b .tasks)) (length (liveOf b))) e)
+submit-unsound b n a e = rw (unsound-refused (soundBoard b) (submitTests (b .device) (b .now) n a (known (a .id) (b .tasks)) (leb 64 (length (liveOf b)))) e)
 
 -- what was found is the place
 pub found-none : (q : Option Place) → Nothing ≡ foundOf q → q ≡ none
@@ -58,7 +54,7 @@ found-some none e = absurd (let z : _≡_ {A = ℕ} 0 1 = cc in omega arith)
 found-some (some p) {c} {t} e = let x : c ≡ p .place = cc in let y : t ≡ p .start = cc in λ i. some (pair (sym y i) (sym x i))
 
 -- a task that is not refused is answered by its planner
-pub accepted-answered : (b : Board) (n : ℕ) (a : Submission) → refusedSubmit b n a ≡ 0 → submitted b n a ≡ taken b a (planned (b .columns) (b .now) (liveOf b) a n)
+pub accepted-answered : (b : Board) (n : ℕ) (a : Submission) → refusedSubmit b n a ≡ 0 → submitted b n a ≡ taken b a (planned (b .device .columns) (b .now) (liveOf b) a n)
 unfolding submitted answered orRefused
 accepted-answered b n a e = rw e
 
@@ -109,19 +105,16 @@ full-slots ks z = same-bool (leb 64 (indexOf isFree ks)) (leb 64 (length (liveIn
         go (inl u) = absurd (let p = some-pass isFree ks u in let l = keep-fewer live ks (p .among) (p .passes) in let b = leb→le 64 (length (liveIn ks)) t in omega arith)
         go (inr u) = le→leb 64 (indexOf isFree ks) (let e = nltb→le (indexOf isFree ks) (length ks) (subst (λ b. T (not b)) (index-test isFree ks) u) in omega arith)
 
-module _ (b : Board) (n : ℕ) (a : Submission) (count free : ℕ) (rows : List ℕ) (o : Kept (b .columns) (b .rows) (b .now) (b .tasks) count rows) (l : free ≡ lowestFree (b .tasks)) where
+module _ (b : Board) (n : ℕ) (a : Submission) (count free : ℕ) (rows : List ℕ) (o : Kept (b .device) (b .now) (b .tasks) count rows) (l : free ≡ lowestFree (b .tasks)) where
   -- the refusals of the book are the code's
-  pub refused-after : {used : Bool} → used ≡ some? (λ (i : ℕ). eqb (idAt rows i) (a .id)) (range 0 count) → refusedSubmit b n a ≡ refusal (testsAfter b n a used free)
+  pub refused-after : {used : Bool} → used ≡ some? (λ (i : ℕ). eqb (idAt rows i) (a .id)) (range 0 count) → refusedSubmit b n a ≡ refusal (submitTests (b .device) (b .now) n a used (leb 64 free))
   unfolding refusedSubmit
   refused-after {used} e =
-      sound-passes b (testsAfter b n a (known (a .id) (b .tasks)) (length (liveOf b))) (o .good)
-      ∙ ap (λ x. refusal (testsAfter b n a x (length (liveOf b)))) (sym (e ∙ known-same (b .columns) (b .rows) (b .now) (b .tasks) count rows (o .stands) (o .good) (a .id)))
-      ∙ ap (refused-with used) (sym (full-slots (b .tasks) (o .stands .slots)) ∙ ap (leb 64) (sym l))
-    where
-      refused-with : Bool → Bool → ℕ
-      refused-with used full = refusal ((3 when ltb 3 n) ∷ (4 when eqb (a .id) 0) ∷ badSize b a ∷ badTime a ∷ (7 when used) ∷ tooLate b a ∷ (9 when full) ∷ [])
+      sound-passes (soundBoard b) (submitTests (b .device) (b .now) n a (known (a .id) (b .tasks)) (leb 64 (length (liveOf b)))) (o .good)
+      ∙ ap (λ x. refusal (submitTests (b .device) (b .now) n a x (leb 64 (length (liveOf b))))) (sym (e ∙ known-same (b .device) (b .now) (b .tasks) count rows (o .stands) (o .good) (a .id)))
+      ∙ ap (λ full. refusal (submitTests (b .device) (b .now) n a used full)) (sym (full-slots (b .tasks) (o .stands .slots)) ∙ ap (leb 64) (sym l))
 
-  pub refused-same : {r : ℕ} {used : Bool} → used ≡ some? (λ (i : ℕ). eqb (idAt rows i) (a .id)) (range 0 count) → r ≡ refusal (testsAfter b n a used free) → 0 < r
+  pub refused-same : {r : ℕ} {used : Bool} → used ≡ some? (λ (i : ℕ). eqb (idAt rows i) (a .id)) (range 0 count) → r ≡ refusal (submitTests (b .device) (b .now) n a used (leb 64 free)) → 0 < r
       → submitted b n a ≡ record { answer = Refused r; board = b }
   unfolding submitted
   refused-same {r} {used} e q h = go r (refused-after e ∙ sym q) h
@@ -130,15 +123,15 @@ module _ (b : Board) (n : ℕ) (a : Submission) (count free : ℕ) (rows : List 
       go zero z l = absurd (omega arith)
       go (suc k) z l = unfold orRefused in rw z
 
-  accepted : {r : ℕ} {used : Bool} → used ≡ some? (λ (i : ℕ). eqb (idAt rows i) (a .id)) (range 0 count) → r ≡ refusal (testsAfter b n a used free) → r ≡ 0 → Accepted b n a
+  accepted : {r : ℕ} {used : Bool} → used ≡ some? (λ (i : ℕ). eqb (idAt rows i) (a .id)) (range 0 count) → r ≡ refusal (submitTests (b .device) (b .now) n a used (leb 64 free)) → r ≡ 0 → Accepted b n a
   accepted e q z = submit-accepted b n a (refused-after e ∙ sym q ∙ z)
 
   -- the planners' answers are the book's
-  planned-lent : n ≤ 3 → planned (b .columns) (b .now) (tasksOf count rows) (asked (a .w) (a .e) (a .d)) n ≡ planned (b .columns) (b .now) (liveOf b) a n
-  planned-lent h = planned-orderless (same-tasks (b .columns) (b .rows) (b .now) (b .tasks) count rows (o .stands) (o .good)) W (b .now) (asked (a .w) (a .e) (a .d)) n ∙ by n h
+  planned-lent : n ≤ 3 → planned (b .device .columns) (b .now) (tasksOf count rows) (asked (a .w) (a .e) (a .d)) n ≡ planned (b .device .columns) (b .now) (liveOf b) a n
+  planned-lent h = planned-orderless (same-tasks (b .device) (b .now) (b .tasks) count rows (o .stands) (o .good)) W (b .now) (asked (a .w) (a .e) (a .d)) n ∙ by n h
     where
       W : ℕ
-      W = b .columns
+      W = b .device .columns
 
       ts : List Task
       ts = liveOf b
@@ -151,7 +144,7 @@ module _ (b : Board) (n : ℕ) (a : Submission) (count free : ℕ) (rows : List 
       by (suc (suc (suc (suc m)))) h = absurd (omega arith)
 
   -- A TASK THAT IS NOT REFUSED
-  module _ {r : ℕ} {used : Bool} (e : used ≡ some? (λ (i : ℕ). eqb (idAt rows i) (a .id)) (range 0 count)) (q : r ≡ refusal (testsAfter b n a used free)) (z : r ≡ 0) where
+  module _ {r : ℕ} {used : Bool} (e : used ≡ some? (λ (i : ℕ). eqb (idAt rows i) (a .id)) (range 0 count)) (q : r ≡ refusal (submitTests (b .device) (b .now) n a used (leb 64 free))) (z : r ≡ 0) where
     k : Accepted b n a
     k = accepted e q z
 
@@ -160,17 +153,17 @@ module _ (b : Board) (n : ℕ) (a : Submission) (count free : ℕ) (rows : List 
 
     -- what is asked of the planner
     abbrev window : Window
-    window = record { width = b .columns; clock = b .now; w = a .w; e = a .e; d = a .d }
+    window = record { width = b .device .columns; clock = b .now; w = a .w; e = a .e; d = a .d }
 
     -- what `place` asks
-    pub may-ask : {masks : List ℕ} → ((n ≡ 1 → ⊥) → (n ≡ 2 → ⊥) → Masked count rows masks) → (n ≤ 3) × LentTo n (b .columns) count rows masks × Fits window
+    pub may-ask : {masks : List ℕ} → ((n ≡ 1 → ⊥) → (n ≡ 2 → ⊥) → Masked count rows masks) → (n ≤ 3) × LentTo n (b .device .columns) count rows masks × Fits window
     may-ask m = (k .planner, kept-lent-to o m, record { wide = k .w .low; columns = k .w .high; long = k .e .low; in-time = k .reachable; until = k .d })
 
     -- no place was found: the rejection
-    pub rejected : {f : Found} → f ≡ foundOf (planned (b .columns) (b .now) (tasksOf count rows) (wanted window) n) → f ≡ Nothing → Rejected ≡ submitted b n a .answer
+    pub rejected : {f : Found} → f ≡ foundOf (planned (b .device .columns) (b .now) (tasksOf count rows) (wanted window) n) → f ≡ Nothing → Rejected ≡ submitted b n a .answer
     unfolding taken
     rejected x y =
-        let m = found-none (planned (b .columns) (b .now) (liveOf b) a n) (sym y ∙ x ∙ ap foundOf (planned-lent (k .planner))) in
+        let m = found-none (planned (b .device .columns) (b .now) (liveOf b) a n) (sym y ∙ x ∙ ap foundOf (planned-lent (k .planner))) in
         sym (ap (λ s. s .answer) (accepted-answered b n a none-refused ∙ ap (taken b a) m))
 
     -- a place was found
@@ -178,11 +171,11 @@ module _ (b : Board) (n : ℕ) (a : Submission) (count free : ℕ) (rows : List 
       pub fits : t + a .e ≤ 2000000000
       pub same : Placed (c % 65536) t (t + a .e) ≡ submitted b n a .answer
 
-    pub settled : {f : Found} {c t : ℕ} → f ≡ foundOf (planned (b .columns) (b .now) (tasksOf count rows) (wanted window) n) → f ≡ At c t → Settled c t
+    pub settled : {f : Found} {c t : ℕ} → f ≡ foundOf (planned (b .device .columns) (b .now) (tasksOf count rows) (wanted window) n) → f ≡ At c t → Settled c t
     unfolding taken
     settled {f} {c} {t} x y =
-        let m = found-some (planned (b .columns) (b .now) (liveOf b) a n) (sym y ∙ x ∙ ap foundOf (planned-lent (k .planner))) in
-        let w = planned-opens (b .columns) (b .now) (liveOf b) a (k .reachable) n m in
+        let m = found-some (planned (b .device .columns) (b .now) (liveOf b) a n) (sym y ∙ x ∙ ap foundOf (planned-lent (k .planner))) in
+        let w = planned-opens (b .device .columns) (b .now) (liveOf b) a (k .reachable) n m in
         let u : c % 65536 ≡ c = omega (arith, w .on-device, k .sound .columns .high) in
         record {
           fits = omega (arith, w .in-time, k .d);

@@ -25,33 +25,30 @@ use Rattle.openings.specs.declared.Filled.{Filled}
 use Rattle.openings.specs.Filled.{filledOf}
 use Rattle.board.specs.declared.Board.{Board}
 use Rattle.board.specs.declared.Opened.{Opened}
-use Rattle.board.specs.Refusals.{Test, refusal, liveOf, soundBoard, badSize, badTime, tooLate, refusedOpenings}
+use Rattle.board.specs.Refusals.{refusal, liveOf, soundBoard, refusedOpenings}
 use Rattle.board.specs.Calls.{orRefused, remaining, opened, openedBuffer}
-use Rattle.board.proofs.Refusals.{none-holds, sound-passes, unsound-refused}
-
--- the tests after test 1
-abbrev pub windowTests : Board → Submission → List Test
-windowTests b a = badSize b a ∷ badTime a ∷ tooLate b a ∷ []
+use Rattle.refusals.specs.Refusals.{openingsTests}
+use Rattle.refusals.proofs.First.{none-holds, sound-passes, unsound-refused}
 
 -- a well-formed task whose deadline can still be reached
 pub record Reachable (b : Board) (a : Submission) : Type 0 where
-  pub w : Between 1 (b .columns) (a .w)
-  pub h : Between 1 (b .rows) (a .h)
+  pub w : Between 1 (b .device .columns) (a .w)
+  pub h : Between 1 (b .device .rows) (a .h)
   pub e : Between 1 1000000 (a .e)
   pub d : a .d ≤ 2000000000
   pub reachable : b .now + a .e ≤ a .d
 
 -- WHAT A REQUEST THAT IS NOT REFUSED BRINGS
-pub window : (b : Board) (a : Submission) → refusal (windowTests b a) ≡ 0 → Reachable b a
+pub window : (b : Board) (a : Submission) → refusal (openingsTests (b .device) (b .now) a) ≡ 0 → Reachable b a
 window b a e =
     let r5 = none-holds 5 _ _ (omega arith) e in
     let r6 = none-holds 6 _ _ (omega arith) (r5 .1) in
     let r8 = none-holds 8 _ _ (omega arith) (r6 .1) in
-    let five = not-not (sizeFits (b .columns) (b .rows) (a .w) (a .h)) (r5 .0) in
+    let five = not-not (sizeFits (b .device) (a .w) (a .h)) (r5 .0) in
     let six = not-not (timeFits (a .e) (a .d)) (r6 .0) in
     record {
-      w = within-out 1 (b .columns) (a .w) (and-l (within 1 (b .columns) (a .w)) (within 1 (b .rows) (a .h)) five);
-      h = within-out 1 (b .rows) (a .h) (and-r (within 1 (b .columns) (a .w)) (within 1 (b .rows) (a .h)) five);
+      w = within-out 1 (b .device .columns) (a .w) (and-l (within 1 (b .device .columns) (a .w)) (within 1 (b .device .rows) (a .h)) five);
+      h = within-out 1 (b .device .rows) (a .h) (and-r (within 1 (b .device .columns) (a .w)) (within 1 (b .device .rows) (a .h)) five);
       e = within-out 1 1000000 (a .e) (and-l (within 1 1000000 (a .e)) (leb (a .d) 2000000000) six);
       d = leb→le (a .d) 2000000000 (and-r (within 1 1000000 (a .e)) (leb (a .d) 2000000000) six);
       reachable = nltb→le (a .d) (b .now + a .e) (r8 .0);
@@ -69,12 +66,12 @@ module _ (b : Board) (a : Submission) (s c : ℕ) (buffer : List ℕ) where
   refused-opened (suc k) e h = (rw e, rw e)
 
   pub unsound-opened : soundBoard b ≡ false → Promised (record { number = 1; count = 0; more = false; board = b }) buffer
-  unsound-opened e = refused-opened 1 ((unfold refusedOpenings in unsound-refused b (windowTests b a) e)) (omega arith)
+  unsound-opened e = refused-opened 1 ((unfold refusedOpenings in unsound-refused (soundBoard b) (openingsTests (b .device) (b .now) a) e)) (omega arith)
 
-  module _ (count : ℕ) (rows : List ℕ) (o : Kept (b .columns) (b .rows) (b .now) (b .tasks) count rows) {r : ℕ} (e : r ≡ refusal (windowTests b a)) where
+  module _ (count : ℕ) (rows : List ℕ) (o : Kept (b .device) (b .now) (b .tasks) count rows) {r : ℕ} (e : r ≡ refusal (openingsTests (b .device) (b .now) a)) where
     tests : refusedOpenings b a ≡ r
     unfolding refusedOpenings
-    tests = sound-passes b (windowTests b a) (o .good) ∙ sym e
+    tests = sound-passes (soundBoard b) (openingsTests (b .device) (b .now) a) (o .good) ∙ sym e
 
     pub window-refused : 0 < r → Promised (record { number = r; count = 0; more = false; board = b }) buffer
     window-refused h = refused-opened r tests h
@@ -82,26 +79,26 @@ module _ (b : Board) (a : Submission) (s c : ℕ) (buffer : List ℕ) where
     module _ (z : r ≡ 0) where
       -- what is asked
       abbrev q : Window
-      q = record { width = b .columns; clock = b .now; w = a .w; e = a .e; d = a .d }
+      q = record { width = b .device .columns; clock = b .now; w = a .w; e = a .e; d = a .d }
 
       -- what the list asks
-      pub may-list : {masks : List ℕ} → Masked count rows masks → Lent (b .columns) count rows masks × Fits q
+      pub may-list : {masks : List ℕ} → Masked count rows masks → Lent (b .device .columns) count rows masks × Fits q
       may-list m =
           let k = window b a (sym e ∙ z) in
           (kept-lent o m, record { wide = k .w .low; columns = k .w .high; long = k .e .low; in-time = k .reachable; until = k .d })
 
       -- the list over the live table is the book's
-      remaining-lent : openingsAfter (ways (b .columns) (b .now) (tasksOf count rows) (wanted q)) (pair s c) ≡ remaining b a s c
+      remaining-lent : openingsAfter (ways (b .device .columns) (b .now) (tasksOf count rows) (wanted q)) (pair s c) ≡ remaining b a s c
       unfolding remaining
       remaining-lent =
-          after-orderless (same-tasks (b .columns) (b .rows) (b .now) (b .tasks) count rows (o .stands) (o .good)) (b .columns) (b .now) (wanted q) (pair s c)
-          ∙ after-bare (b .columns) (b .now) (liveOf b) (wanted q) (pair s c)
+          after-orderless (same-tasks (b .device) (b .now) (b .tasks) count rows (o .stands) (o .good)) (b .device .columns) (b .now) (wanted q) (pair s c)
+          ∙ after-bare (b .device .columns) (b .now) (liveOf b) (wanted q) (pair s c)
           ∙ (unfold openingsAfter after ways booked stamped meets in refl)
 
       -- DONE
       pub listed-opened : {f : Filled} {written : List ℕ}
-          → f ≡ filledOf (length buffer) (openingsAfter (ways (b .columns) (b .now) (tasksOf count rows) (wanted q)) (pair s c))
-          → written ≡ overFront (pairWords (take (length buffer / 2) (openingsAfter (ways (b .columns) (b .now) (tasksOf count rows) (wanted q)) (pair s c)))) buffer
+          → f ≡ filledOf (length buffer) (openingsAfter (ways (b .device .columns) (b .now) (tasksOf count rows) (wanted q)) (pair s c))
+          → written ≡ overFront (pairWords (take (length buffer / 2) (openingsAfter (ways (b .device .columns) (b .now) (tasksOf count rows) (wanted q)) (pair s c)))) buffer
           → Promised (record { number = 0; count = f .count; more = f .more; board = b }) written
       unfolding opened openedBuffer orRefused filledOf
       listed-opened {f} {written} p t =

@@ -7,9 +7,10 @@ use lib.Dec.{ltb}
 use lib.ListN.{length, take, replicate}
 use Rattle.lists.specs.Lists.{overFront}
 use Rattle.ways.specs.Ways.{pair, openingsAfter}
+use Rattle.tasks.specs.declared.Device.{Device}
 use Rattle.tasks.specs.declared.Task.{Task}
 use Rattle.tasks.specs.declared.Submission.{Submission}
-use Rattle.tasks.specs.Numbers.{mostTasks}
+use Rattle.tasks.specs.Numbers.{mostTasks, device}
 use Rattle.tasks.specs.Tasks.{freeSlot, booked}
 use Rattle.planners.specs.Openings.{Place, ways, pairWords}
 use Rattle.planners.specs.Planners.{planned}
@@ -33,20 +34,21 @@ orRefused (suc k) refused done = refused (suc k)
 
 -- the board with other slots
 abbrev pub withTasks : Board → List Task → Board
-withTasks b ks = record { tasks = ks; now = b .now; columns = b .columns; rows = b .rows }
+withTasks b ks = record { tasks = ks; now = b .now; device = b .device }
 
 -- "A new board has the W and H asked for, now 0 and 64 free slots"
-unfoldable pub freshBoard : ℕ → ℕ → Board
-freshBoard W H = record { tasks = replicate mostTasks freeSlot; now = 0; columns = W; rows = H }
+unfoldable pub freshBoard : Device → Board
+freshBoard D = record { tasks = replicate mostTasks freeSlot; now = 0; device = D }
 
 -- "an unsound board of zeros comes back, every phase ended"
 abbrev pub zeroBoard : Board
-zeroBoard = freshBoard 0 0
+zeroBoard = freshBoard (device 0 0)
 
 -- NEW BOARD
 unfoldable pub created : ℕ → ℕ → Created
 created W H =
-    orRefused (refusedCreate W H) (λ k. record { number = k; board = zeroBoard }) (record { number = 0; board = freshBoard W H })
+    orRefused (refusedCreate (device W H)) (λ k. record { number = k; board = zeroBoard })
+    (record { number = 0; board = freshBoard (device W H) })
 
 -- "A task answered 0 takes the lowest free slot, its record as submitted with the column and start answered"
 unfoldable pub withTask : Board → Submission → Place → Board
@@ -59,7 +61,7 @@ taken b a (some p) = record { answer = Placed (p .place) (p .start) (p .start + 
 
 -- what planner n answers to a task that is not refused
 unfoldable pub answered : Board → ℕ → Submission → Submitted
-answered b n a = taken b a (planned (b .columns) (b .now) (liveOf b) a n)
+answered b n a = taken b a (planned (b .device .columns) (b .now) (liveOf b) a n)
 
 -- SUBMISSION
 unfoldable pub submitted : Board → ℕ → Submission → Submitted
@@ -69,7 +71,7 @@ submitted b n a =
 
 -- the board with its clock at i
 unfoldable pub boardAt : Board → ℕ → Board
-boardAt b i = record { tasks = allAgedTo i (b .tasks); now = i; columns = b .columns; rows = b .rows }
+boardAt b i = record { tasks = allAgedTo i (b .tasks); now = i; device = b .device }
 
 -- CLOCK
 unfoldable pub clocked : Board → ℕ → Clocked
@@ -84,7 +86,7 @@ withdrawn b n =
 
 -- "openings strictly after that pair"
 unfoldable pub remaining : Board → Submission → ℕ → ℕ → List Place
-remaining b a s c = openingsAfter (ways (b .columns) (b .now) (liveOf b) a) (pair s c)
+remaining b a s c = openingsAfter (ways (b .device .columns) (b .now) (liveOf b) a) (pair s c)
 
 -- OPENINGS: "for as many openings strictly after that pair as fit .. returns how many, and whether a further one remains"
 unfoldable pub opened : Board → Submission → ℕ → ℕ → ℕ → Opened
@@ -118,4 +120,4 @@ listedBuffer b buffer =
 unfoldable pub counted : Board → ℕ → Counted
 counted b i =
     orRefused (refusedInstant b i) (λ k. record { number = k; count = 0; board = b })
-    (record { number = 0; count = busyColumns (b .columns) (liveOf b) i; board = b })
+    (record { number = 0; count = busyColumns (b .device .columns) (liveOf b) i; board = b })

@@ -1,4 +1,4 @@
 pub mod Answers
 pub mod Refusals
 pub mod Calls
-pub mod Untested
+pub mod Standing

@@ -11,11 +11,12 @@ ghost use Rattle.board.specs.declared.Answer.the-variants.{Placed};
 ghost use Rattle.board.specs.Answers.{told};
 ghost use Rattle.board.specs.Refusals.{soundBoard};
 ghost use Rattle.board.specs.Calls.{freshBoard, created, submitted, clocked, withdrawn, opened, openedBuffer, listed, listedBuffer, counted};
-ghost use Rattle.board.specs.Untested.{clockedUntested, withdrawnUntested, submittedBooked, boardOf, Standing};
+ghost use Rattle.board.specs.Standing.{submittedBooked, boardOf, Standing};
 use live::Live;
 use live::Masks;
 use planners::Found;
 use planners::Window;
+use tasks::Device;
 use tasks::Submission;
 use tasks::Task;
 
@@ -23,8 +24,7 @@ use tasks::Task;
 pub struct Board {
     pub tasks: [Task; 64],
     pub now: u32,
-    pub columns: u16,
-    pub rows: u16,
+    pub device: Device,
 }
 
 // "A submission is answered by one of three: a place, a rejection, or a refusal."
@@ -102,17 +102,17 @@ pub fn decide<'a>(
     masks: &'a Masks,
     count: usize,
     free: usize,
-    columns: u16,
-    rows: u16,
+    on: Device,
     clock: u32,
     planner: u8,
     a: Submission,
 ) -> Answer
-    requires { ⌜ Standing columns rows clock count free planner (now live) (now masks) ⌝ }
-    ensures { λ r. ⌜ ((ks : List Task) → Kept columns rows clock ks count (now (live .entry)) → free ≡ lowestFree ks → r ≡ submitted (boardOf ks clock columns rows) planner a .answer) ⌝ }
+    requires { ⌜ Standing on clock count free planner (now live) (now masks) ⌝ }
+    ensures { λ r. ⌜ ((ks : List Task) → Kept on clock ks count (now (live .entry)) → free ≡ lowestFree ks → r ≡ submitted (boardOf ks clock on) planner a .answer) ⌝ }
 {
     let known = keeping::among(live, count, a.id);
-    let number = refusals::refuse(planner, columns, rows, clock, a, known, free);
+    let full = tasks::MOST_TASKS <= free;
+    let number = refusals::refuse_submission(on, clock, planner, a, known, full);
     if 0 < number {
         return Answer::Refused(number);
     }
@@ -122,7 +122,7 @@ pub fn decide<'a>(
         masks,
         count,
         Window {
-            width: columns as u32,
+            width: on.columns as u32,
             clock: clock,
             w: a.w as u32,
             e: a.e,
@@ -143,16 +143,15 @@ pub fn decide<'a>(
 }
 
 // "A new board has the W and H asked for, now 0 and 64 free slots".
-fn fresh(columns: u16, rows: u16) -> Board
-    ensures { λ r. ⌜ r ≡ freshBoard columns rows ⌝ }
+fn fresh(on: Device) -> Board
+    ensures { λ r. ⌜ r ≡ freshBoard on ⌝ }
 {
     let k = tasks::free_slot();
     let tasks = [k; 64];
     Board {
         tasks: tasks,
         now: 0,
-        columns: columns,
-        rows: rows,
+        device: on,
     }
 }
 
@@ -161,14 +160,21 @@ impl Board {
     pub fn new(columns: u16, rows: u16) -> Created
         ensures { λ r. ⌜ r ≡ created columns rows ⌝ }
     {
-        if slots::device_fits(columns, rows) {
-            let board = fresh(columns, rows);
+        let on = Device {
+            columns: columns,
+            rows: rows,
+        };
+        if tasks::device_fits(on) {
+            let board = fresh(on);
             return Created {
                 number: 0,
                 board: board,
             };
         }
-        let board = fresh(0, 0);
+        let board = fresh(Device {
+            columns: 0,
+            rows: 0,
+        });
         Created {
             number: 2,
             board: board,
@@ -180,7 +186,7 @@ impl Board {
         ensures { λ r. ⌜ r ≡ soundBoard self ⌝ }
     {
         let tasks = self.tasks;
-        pairs::is_sound(self.columns, self.rows, self.now, tasks)
+        pairs::is_sound(self.device, self.now, tasks)
     }
 
     // A task submitted to a planner: 1, 3 to 9; a place, or the rejection.
@@ -190,7 +196,7 @@ impl Board {
     {
         let tasks = self.tasks;
         let mut live = [0u32; 384];
-        let v = pairs::test(self.columns, self.rows, self.now, tasks, &mut live);
+        let v = pairs::test(self.device, self.now, tasks, &mut live);
         if !v.sound {
             return Submitted {
                 answer: Answer::Refused(1),
@@ -205,8 +211,7 @@ impl Board {
             &masks,
             v.count,
             free,
-            self.columns,
-            self.rows,
+            self.device,
             self.now,
             planner,
             a,
@@ -249,73 +254,50 @@ impl Board {
     pub fn clock(self, instant: u32) -> Clocked
         ensures { λ r. ⌜ r ≡ clocked self instant ⌝ }
     {
-        if self.is_sound() {
-            return self.clock_untested(instant);
-        }
-        Clocked {
-            number: 1,
-            board: self,
-        }
-    }
-
-    // The same for a board that is known to be sound.
-    pub fn clock_untested(self, instant: u32) -> Clocked
-        ensures { λ r. ⌜ r ≡ clockedUntested self instant ⌝ }
-    {
-        if instant < self.now {
+        if !self.is_sound() {
             return Clocked {
-                number: 11,
+                number: 1,
                 board: self,
             };
         }
-        if 2_000_000_000 < instant {
+        let number = refusals::refuse_instant(self.now, instant);
+        if 0 < number {
             return Clocked {
-                number: 12,
+                number: number,
                 board: self,
             };
         }
         let tasks = self.tasks;
+        let on = self.device;
         let aged = slots::all_aged(tasks, instant);
         Clocked {
             number: 0,
             board: Board {
                 tasks: aged,
                 now: instant,
-                columns: self.columns,
-                rows: self.rows,
+                device: on,
             },
         }
     }
 
-    // A waiting task withdrawn: 1, 13, 14.
-    pub fn withdraw(self, id: u32) -> Withdrawn
+    // A waiting task withdrawn: 1, 13, 14. Where no live task has the id, whether one has begun is not asked: 13 comes first.
+    pub fn withdraw(mut self, id: u32) -> Withdrawn
         ensures { λ r. ⌜ r ≡ withdrawn self id ⌝ }
     {
-        if self.is_sound() {
-            return self.withdraw_untested(id);
-        }
-        Withdrawn {
-            number: 1,
-            board: self,
-        }
-    }
-
-    // The same for a board that is known to be sound.
-    pub fn withdraw_untested(mut self, id: u32) -> Withdrawn
-        ensures { λ r. ⌜ r ≡ withdrawnUntested self id ⌝ }
-    {
-        let tasks = self.tasks;
-        let slot = slots::slot_named(tasks, id);
-        if 64 <= slot {
+        if !self.is_sound() {
             return Withdrawn {
-                number: 13,
+                number: 1,
                 board: self,
             };
         }
-        let k = tasks[slot];
-        if tasks::is_running(k) {
+        let tasks = self.tasks;
+        let slot = slots::slot_named(tasks, id);
+        let k = tasks[slot % 64];
+        let waits = tasks::is_waiting(k);
+        let number = refusals::refuse_withdrawal(slot < 64, !waits);
+        if 0 < number {
             return Withdrawn {
-                number: 14,
+                number: number,
                 board: self,
             };
         }
@@ -325,6 +307,7 @@ impl Board {
             board: self,
         }
     }
+
     // The openings for a task strictly after a pair, as many as the lent buffer has room for, start and column each: 1, 5, 6, 8.
     pub fn openings(self, a: Submission, start: u32, column: u32, buffer: &mut [u32]) -> Opened
         ensures { λ r. ⌜ r ≡ opened self a start column (length (now (buffer .entry))) ⌝ }
@@ -333,14 +316,7 @@ impl Board {
         let tasks = self.tasks;
         let mut live = [0u32; 384];
         let mut masks = [0u64; 256];
-        let v = pairs::stand(
-            self.columns,
-            self.rows,
-            self.now,
-            tasks,
-            &mut live,
-            &mut masks,
-        );
+        let v = pairs::stand(self.device, self.now, tasks, &mut live, &mut masks);
         if !v.sound {
             return Opened {
                 number: 1,
@@ -349,7 +325,7 @@ impl Board {
                 board: self,
             };
         }
-        let number = refusals::refuse_openings(self.columns, self.rows, self.now, a);
+        let number = refusals::refuse_openings(self.device, self.now, a);
         if 0 < number {
             return Opened {
                 number: number,
@@ -363,7 +339,7 @@ impl Board {
             &masks,
             v.count,
             Window {
-                width: self.columns as u32,
+                width: self.device.columns as u32,
                 clock: self.now,
                 w: a.w as u32,
                 e: a.e,
@@ -387,7 +363,7 @@ impl Board {
     {
         let tasks = self.tasks;
         let mut live = [0u32; 384];
-        let v = pairs::test(self.columns, self.rows, self.now, tasks, &mut live);
+        let v = pairs::test(self.device, self.now, tasks, &mut live);
         if !v.sound {
             return Listed {
                 number: 1,
@@ -396,7 +372,7 @@ impl Board {
             };
         }
         let room = buffer.len();
-        let n = strips::strips(&live, v.count, self.columns as u32, self.now, buffer);
+        let n = strips::strips(&live, v.count, self.device.columns as u32, self.now, buffer);
         if room < 3 * n {
             return Listed {
                 number: 17,
@@ -417,7 +393,7 @@ impl Board {
     {
         let tasks = self.tasks;
         let mut live = [0u32; 384];
-        let v = pairs::test(self.columns, self.rows, self.now, tasks, &mut live);
+        let v = pairs::test(self.device, self.now, tasks, &mut live);
         if !v.sound {
             return Counted {
                 number: 1,
@@ -433,7 +409,7 @@ impl Board {
                 board: self,
             };
         }
-        let count = busy::busy(&live, v.count, self.columns as u32, instant);
+        let count = busy::busy(&live, v.count, self.device.columns as u32, instant);
         Counted {
             number: 0,
             count: count,

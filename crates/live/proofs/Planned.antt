@@ -13,6 +13,7 @@ use Rattle.lists.proofs.Members.{keep-in, in-keep, map-in, in-map, range-in, in
 use Rattle.lists.proofs.Order.{sorted-at}
 use Rattle.lists.proofs.Same.{Same}
 use Rattle.tasks.specs.declared.Phase.the-variants.{Ended}
+use Rattle.tasks.specs.declared.Device.{Device}
 use Rattle.tasks.specs.declared.Task.{Task}
 use Rattle.tasks.specs.Tasks.{meets, live, freeSlot}
 use Rattle.tasks.proofs.Laws.{meets-share}
@@ -53,8 +54,8 @@ module _ {ks : List Task} {rows : List ℕ} {i : ℕ} (e : Entry ks rows i) wher
       λ j. record { id = 0; e = x j; d = 0; start = entry-start j; w = y j; h = 0; column = entry-left j; phase = Ended }
 
 -- ON THE DEVICE, where each of the tasks is sound
-pub entries-device : {W H now : ℕ} {ks : List Task} {n : ℕ} {rows : List ℕ} → W ≤ 256 → Stands 64 ks n rows
-    → ((i : ℕ) → i < n → SoundTask W H now (getD ks (slotAt rows i) freeSlot)) → OnDevice W n rows
+pub entries-device : {D : Device} {now : ℕ} {ks : List Task} {n : ℕ} {rows : List ℕ} → D .columns ≤ 256 → Stands 64 ks n rows
+    → ((i : ℕ) → i < n → SoundTask D now (getD ks (slotAt rows i) freeSlot)) → OnDevice (D .columns) n rows
 entries-device w o each = record {
   wide = w;
   few = o .few;
@@ -65,9 +66,9 @@ entries-device w o each = record {
   until = λ i h. omega (arith, entry-finish (o .each i h), each i h .in-time, each i h .d);
 }
 
-module _ (W H now : ℕ) (ks : List Task) (n : ℕ) (rows : List ℕ) (o : Stands 64 ks n rows) (good : sound W H now ks ≡ true) where
-  s : Sound W H now ks
-  s = sound-out W H now ks (rw good tt)
+module _ (D : Device) (now : ℕ) (ks : List Task) (n : ℕ) (rows : List ℕ) (o : Stands 64 ks n rows) (good : sound D now ks ≡ true) where
+  s : Sound D now ks
+  s = sound-out D now ks (rw good tt)
 
   -- the task of place i
   abbrev task : ℕ → Task
@@ -76,7 +77,7 @@ module _ (W H now : ℕ) (ks : List Task) (n : ℕ) (rows : List ℕ) (o : Stand
   among : (i : ℕ) → i < n → task i ∈ ks
   among i h = getD-in ks (slotAt rows i) freeSlot (omega (arith, o .slots, o .each i h .inside))
 
-  each : (i : ℕ) → i < n → SoundTask W H now (task i)
+  each : (i : ℕ) → i < n → SoundTask D now (task i)
   each i h = s .tasks (task i) (among i h) (o .each i h .there)
 
   -- its numbers
@@ -90,7 +91,7 @@ module _ (W H now : ℕ) (ks : List Task) (n : ℕ) (rows : List ℕ) (o : Stand
     task-is : taskAt rows i ≡ bare (task i)
     task-is = entry-task (o .each i h)
 
-  pub on-device : OnDevice W n rows
+  pub on-device : OnDevice (D .columns) n rows
   on-device = entries-device (s .columns .high) o each
 
   -- NONE IN ANOTHER'S WAY
@@ -161,15 +162,15 @@ module _ (W H now : ℕ) (ks : List Task) (n : ℕ) (rows : List ℕ) (o : Stand
           (subst (λ x. T (eqb x id)) z (and-r (live (p .it)) (eqb (p .it .id) id) (p .passes)))
 
 -- WHAT A PLANNER IS LENT
-module _ {W H now : ℕ} {ks : List Task} {n : ℕ} {rows : List ℕ} (k : Kept W H now ks n rows) where
-  pub kept-device : OnDevice W n rows
-  kept-device = on-device W H now ks n rows (k .stands) (k .good)
+module _ {D : Device} {now : ℕ} {ks : List Task} {n : ℕ} {rows : List ℕ} (k : Kept D now ks n rows) where
+  pub kept-device : OnDevice (D .columns) n rows
+  kept-device = on-device D now ks n rows (k .stands) (k .good)
 
   pub kept-apart : Apart n rows
-  kept-apart = apart W H now ks n rows (k .stands) (k .good)
+  kept-apart = apart D now ks n rows (k .stands) (k .good)
 
-  pub kept-lent-to : {p : ℕ} {masks : List ℕ} → ((p ≡ 1 → ⊥) → (p ≡ 2 → ⊥) → Masked n rows masks) → LentTo p W n rows masks
+  pub kept-lent-to : {p : ℕ} {masks : List ℕ} → ((p ≡ 1 → ⊥) → (p ≡ 2 → ⊥) → Masked n rows masks) → LentTo p (D .columns) n rows masks
   kept-lent-to m = record { device = kept-device; falling = k .falling; apart = kept-apart; masked = m }
 
-  pub kept-lent : {masks : List ℕ} → Masked n rows masks → Lent W n rows masks
+  pub kept-lent : {masks : List ℕ} → Masked n rows masks → Lent (D .columns) n rows masks
   kept-lent m = record { device = kept-device; falling = k .falling; apart = kept-apart; masked = m }

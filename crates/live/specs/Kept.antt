@@ -6,6 +6,7 @@ use mathlib.Core.List.{List}
 use lib.Dec.{T, leb, ltb}
 use lib.ListN.{length, getD}
 use Rattle.lists.specs.Lists.{indexOf}
+use Rattle.tasks.specs.declared.Device.{Device}
 use Rattle.tasks.specs.declared.Task.{Task}
 use Rattle.tasks.specs.Tasks.{finish, live, freeSlot}
 use Rattle.slots.specs.Slots.{sound}
@@ -28,8 +29,8 @@ pub record Stands (m : ℕ) (ks : List Task) (n : ℕ) (rows : List ℕ) : Type 
   pub every : (s : ℕ) → s < m → T (live (getD ks s freeSlot)) → (i : ℕ) × (i < n) × (slotAt rows i ≡ s)
 
 -- THE LIVE TABLE of a sound board with the slots ks: its n live tasks, the last to finish first
-pub record Kept (W H clock : ℕ) (ks : List Task) (n : ℕ) (rows : List ℕ) : Type 0 where
-  pub good : sound W H clock ks ≡ true
+pub record Kept (D : Device) (clock : ℕ) (ks : List Task) (n : ℕ) (rows : List ℕ) : Type 0 where
+  pub good : sound D clock ks ≡ true
   pub stands : Stands 64 ks n rows
   pub falling : Falling n rows
 

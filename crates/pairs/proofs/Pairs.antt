@@ -13,6 +13,7 @@ use Rattle.lists.proofs.Bools.{and-l, and-r, and-i, same-bool, is-true}
 use Rattle.lists.proofs.Members.{getD-in, all-pass}
 use Rattle.lists.proofs.Order.{Sorted, sorted-at, at-sorted, range-pairs, pairs-range}
 use Rattle.lists.proofs.Append.{and-true, all-range-more, range-first}
+use Rattle.tasks.specs.declared.Device.{Device}
 use Rattle.tasks.specs.declared.Task.{Task}
 use Rattle.tasks.specs.Numbers.{within, deviceFits}
 use Rattle.tasks.specs.Tasks.{meets, live, freeSlot}
@@ -82,20 +83,20 @@ pairs-off p i n r h e z = pairs-first p i n h ∙ ap (λ b. b && pairwise? p (ra
 pub pairs-end : (p : ℕ → ℕ → Bool) (i n : ℕ) → n ≤ i → pairwise? p (range i (n - i)) ≡ true
 pairs-end p i n h = let z : n - i ≡ 0 = omega arith in rw z (unfold pairwise? range in refl)
 
-module _ (W H now : ℕ) (ks : List Task) (n : ℕ) (rows : List ℕ) (o : Stands 64 ks n rows) (good : T (all? (slotSound W H now) ks)) where
+module _ (D : Device) (now : ℕ) (ks : List Task) (n : ℕ) (rows : List ℕ) (o : Stands 64 ks n rows) (good : T (all? (slotSound D now) ks)) where
   -- the task of place i
   abbrev task : ℕ → Task
   task i = getD ks (slotAt rows i) freeSlot
 
-  each : (i : ℕ) → i < n → SoundTask W H now (task i)
+  each : (i : ℕ) → i < n → SoundTask D now (task i)
   unfolding slotSound
   each i h =
       let e = o .each i h in
       let m = getD-in ks (slotAt rows i) freeSlot (omega (arith, o .slots, e .inside)) in
-      task-out W H now (task i) (e .there) (rw (is-true (live (task i)) (e .there)) at (all-pass (slotSound W H now) ks good m))
+      task-out D now (task i) (e .there) (rw (is-true (live (task i)) (e .there)) at (all-pass (slotSound D now) ks good m))
 
   -- ON THE WIDEST DEVICE
-  pub on-widest : W ≤ 256 → OnDevice 256 n rows
+  pub on-widest : D .columns ≤ 256 → OnDevice 256 n rows
   on-widest w =
       let d = entries-device w o each in
       record {
@@ -174,10 +175,10 @@ module _ (W H now : ℕ) (ks : List Task) (n : ℕ) (rows : List ℕ) (o : Stand
               go (no z) (no d) = together-sym (task (q .0)) (task (p .0)) (free (q .0) (p .0) (omega arith) (p .1))
 
 -- WHAT WAS FOUND IS SOUND exactly if device, clock and slots are, and then by the pairs
-module _ (W H now : ℕ) (ks : List Task) (raw : List ℕ) (v : Findings) (o : Surveyed W H now ks raw v) where
-  sound-not : (deviceFits W H && leb now 2000000000 && v .sound) ≡ false → sound W H now ks ≡ false
+module _ (D : Device) (now : ℕ) (ks : List Task) (raw : List ℕ) (v : Findings) (o : Surveyed D now ks raw v) where
+  sound-not : (deviceFits D && leb now 2000000000 && v .sound) ≡ false → sound D now ks ≡ false
   unfolding sound
-  sound-not e = rw (o .slots, ← o .sound) (none (deviceFits W H && leb now 2000000000) (v .sound) e)
+  sound-not e = rw (o .slots, ← o .sound) (none (deviceFits D && leb now 2000000000) (v .sound) e)
     where
       none : (a s : Bool) → (a && s) ≡ false → (a && true && s && pairwise? together (liveIn ks)) ≡ false
       none true true q = absurd (subst T q tt)
@@ -185,8 +186,8 @@ module _ (W H now : ℕ) (ks : List Task) (raw : List ℕ) (v : Findings) (o : S
       none false s q = refl
 
   -- THE TEST, where something before the pairs fails
-  pub tested-not : {rows : List ℕ} → length rows ≡ 384 → (deviceFits W H && leb now 2000000000 && v .sound) ≡ false
-      → Tested W H now ks rows (record { count = v .count; used = v .used; sound = false })
+  pub tested-not : {rows : List ℕ} → length rows ≡ 384 → (deviceFits D && leb now 2000000000 && v .sound) ≡ false
+      → Tested D now ks rows (record { count = v .count; used = v .used; sound = false })
   tested-not z e = record {
     size = z;
     slots = o .slots;
@@ -197,27 +198,27 @@ module _ (W H now : ℕ) (ks : List Task) (raw : List ℕ) (v : Findings) (o : S
   }
 
   -- where nothing does, the table sorted stands for the slots
-  module _ (e : (deviceFits W H && leb now 2000000000 && v .sound) ≡ true) {rows : List ℕ} (s : InOrder (v .count) raw rows) where
-    passed : T (deviceFits W H && leb now 2000000000 && v .sound)
+  module _ (e : (deviceFits D && leb now 2000000000 && v .sound) ≡ true) {rows : List ℕ} (s : InOrder (v .count) raw rows) where
+    passed : T (deviceFits D && leb now 2000000000 && v .sound)
     passed = rw e tt
 
-    fits : T (deviceFits W H && leb now 2000000000)
-    fits = and-l (deviceFits W H && leb now 2000000000) (v .sound) passed
+    fits : T (deviceFits D && leb now 2000000000)
+    fits = and-l (deviceFits D && leb now 2000000000) (v .sound) passed
 
-    good : T (all? (slotSound W H now) ks)
-    good = subst T (o .sound) (and-r (deviceFits W H && leb now 2000000000) (v .sound) passed)
+    good : T (all? (slotSound D now) ks)
+    good = subst T (o .sound) (and-r (deviceFits D && leb now 2000000000) (v .sound) passed)
 
     stands : Stands 64 ks (v .count) rows
     stands = exchanged-stands (o .stands good) (s .exchanged)
 
     pub sorted-device : OnDevice 256 (v .count) rows
     sorted-device =
-        on-widest W H now ks (v .count) rows stands good
-        (within-out 1 256 W (and-l (within 1 256 W) (within 1 1024 H) (and-l (deviceFits W H) (leb now 2000000000) fits)) .high)
+        on-widest D now ks (v .count) rows stands good
+        (within-out 1 256 (D .columns) (and-l (within 1 256 (D .columns)) (within 1 1024 (D .rows)) (and-l (deviceFits D) (leb now 2000000000) fits)) .high)
 
     -- and by the pairs
     pub tested-pairs : {differ apart : Bool} → differ ≡ pairwise? (λ i j. not (eqb (idAt rows i) (idAt rows j))) (range 0 (v .count)) → Judged (v .count) rows apart
-        → Tested W H now ks rows (record { count = v .count; used = v .used; sound = differ && apart })
+        → Tested D now ks rows (record { count = v .count; used = v .used; sound = differ && apart })
     unfolding sound
     tested-pairs {differ} {apart} d q = record {
       size = s .size;
@@ -228,7 +229,7 @@ module _ (W H now : ℕ) (ks : List Task) (raw : List ℕ) (v : Findings) (o : S
       kept = λ z. record { good = sym found ∙ z; stands = stands; falling = s .falling };
     }
       where
-        found : (differ && apart) ≡ sound W H now ks
+        found : (differ && apart) ≡ sound D now ks
         found =
-            rw (is-true (deviceFits W H && leb now 2000000000) fits, o .slots, is-true (all? (slotSound W H now) ks) good)
-            (pairs-same W H now ks (v .count) rows stands good d q)
+            rw (is-true (deviceFits D && leb now 2000000000) fits, o .slots, is-true (all? (slotSound D now) ks) good)
+            (pairs-same D now ks (v .count) rows stands good d q)

@@ -4,6 +4,7 @@ use mathlib.Core.Path.{_≡_}
 use mathlib.Core.Bool.{Bool, true, false}
 use mathlib.Core.List.{List}
 use lib.ListN.{length, getD}
+use Rattle.tasks.specs.declared.Device.{Device}
 use Rattle.tasks.specs.declared.Task.{Task}
 use Rattle.tasks.specs.Tasks.{meets}
 use Rattle.slots.specs.Slots.{sound}
@@ -41,16 +42,16 @@ pub record Judged (n : ℕ) (rows : List ℕ) (r : Bool) : Type 0 where
   pub meeting : r ≡ false → Meeting n rows
 
 -- whether a board is sound, and where it is, its live table
-pub record Tested (W H clock : ℕ) (ks : List Task) (rows : List ℕ) (v : Findings) : Type 0 where
+pub record Tested (D : Device) (clock : ℕ) (ks : List Task) (rows : List ℕ) (v : Findings) : Type 0 where
   pub size : length rows ≡ 384
   pub slots : length ks ≡ 64
   pub few : v .count ≤ 64
   pub used : InUse 64 ks (v .used)
-  pub sound : v .sound ≡ sound W H clock ks
-  pub kept : v .sound ≡ true → Kept W H clock ks (v .count) rows
+  pub sound : v .sound ≡ sound D clock ks
+  pub kept : v .sound ≡ true → Kept D clock ks (v .count) rows
 
 -- the same with the words of its tasks' columns
-pub record Stood (W H clock : ℕ) (ks : List Task) (rows masks : List ℕ) (v : Findings) : Type 0 where
-  pub tested : Tested W H clock ks rows v
+pub record Stood (D : Device) (clock : ℕ) (ks : List Task) (rows masks : List ℕ) (v : Findings) : Type 0 where
+  pub tested : Tested D clock ks rows v
   pub wide : length masks ≡ 256
   pub masked : v .sound ≡ true → Masked (v .count) rows masks

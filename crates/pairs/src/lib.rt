@@ -12,6 +12,7 @@ ghost use Rattle.pairs.specs.Pairs.{Taken, Judged, Tested, Stood};
 use live::Live;
 use live::Masks;
 use survey::Findings;
+use tasks::Device;
 use tasks::Task;
 
 // 1 for a clash.
@@ -94,14 +95,14 @@ fn none_meets(live: &Live, n: usize) -> bool
 
 // The live tasks of a board where it is sound, the last to finish first: the survey of the slots, and whether they make a sound board: device
 // and clock, each slot, each pair of live tasks.
-pub fn test(columns: u16, rows: u16, clock: u32, tasks: [Task; 64], live: &mut Live) -> Findings
+pub fn test(on: Device, clock: u32, tasks: [Task; 64], live: &mut Live) -> Findings
     requires { ⌜ length (now live) ≡ 384 ⌝ }
-    ensures { λ r. ⌜ Tested columns rows clock tasks (now (live .exit)) r ⌝ }
+    ensures { λ r. ⌜ Tested on clock tasks (now (live .exit)) r ⌝ }
 {
     let mut raw = [0u32; 384];
-    let v = survey::survey(columns, rows, clock, tasks, &mut raw);
-    let fits = slots::device_fits(columns, rows);
-    if !(fits & (clock <= 2_000_000_000) & v.sound) {
+    let v = survey::survey(on, clock, tasks, &mut raw);
+    let fits = tasks::device_fits(on);
+    if !(fits & (clock <= tasks::LAST_INSTANT) & v.sound) {
         return Findings {
             count: v.count,
             used: v.used,
@@ -120,17 +121,16 @@ pub fn test(columns: u16, rows: u16, clock: u32, tasks: [Task; 64], live: &mut L
 
 // The same with the words of their columns.
 pub fn stand<'a>(
-    columns: u16,
-    rows: u16,
+    on: Device,
     clock: u32,
     tasks: [Task; 64],
     live: &'a mut Live,
     masks: &'a mut Masks,
 ) -> Findings
     requires { ⌜ (length (now live) ≡ 384) × (length (now masks) ≡ 256) ⌝ }
-    ensures { λ r. ⌜ Stood columns rows clock tasks (now (live .exit)) (now (masks .exit)) r ⌝ }
+    ensures { λ r. ⌜ Stood on clock tasks (now (live .exit)) (now (masks .exit)) r ⌝ }
 {
-    let v = test(columns, rows, clock, tasks, live);
+    let v = test(on, clock, tasks, live);
     if v.sound {
         sorting::mark(live, v.count, masks);
     }
@@ -138,10 +138,10 @@ pub fn stand<'a>(
 }
 
 // Whether the slots make a sound board.
-pub fn is_sound(columns: u16, rows: u16, clock: u32, tasks: [Task; 64]) -> bool
-    ensures { λ r. ⌜ r ≡ sound columns rows clock tasks ⌝ }
+pub fn is_sound(on: Device, clock: u32, tasks: [Task; 64]) -> bool
+    ensures { λ r. ⌜ r ≡ sound on clock tasks ⌝ }
 {
     let mut live = [0u32; 384];
-    let v = test(columns, rows, clock, tasks, &mut live);
+    let v = test(on, clock, tasks, &mut live);
     v.sound
 }

@@ -5,15 +5,16 @@ ghost use mathlib.Core.List.{[], _∷_};
 ghost use Prim.Native.Nat.{_+_, _-_, _*_, _≤_, _<_};
 ghost use lib.ListN.{length};
 ghost use lib.Seq.{sets};
+ghost use Rattle.session.specs.Recording.{mostEvents};
 ghost use Rattle.plan.specs.Streams.{Stands};
-use board::Board;
 use libc::STDIN_FILENO;
 use libc::STDOUT_FILENO;
 use session::Ran;
+use steps::State;
 use streams::Told;
 
 // Where the program stands: the bytes from `from` to `to` wait, and so do some lines; the events so far; whether to go on.
-struct State {
+struct Stream {
     from: usize,
     to: usize,
     lines: usize,
@@ -42,12 +43,12 @@ fn flush(text: &mut [u8], words: &[u32], lines: usize) -> bool
 }
 
 // The lines that wait are written, and the run goes on from where it stands.
-fn written(text: &mut [u8], words: &[u32], s: State) -> State
+fn written(text: &mut [u8], words: &[u32], s: Stream) -> Stream
     requires { ⌜ (s .lines * 66 ≤ length (now text)) × (s .lines * 6 ≤ length (now words)) ⌝ }
     ensures { λ r. ⌜ (r .from ≡ s .from) × (r .to ≡ s .to) × (r .lines ≡ 0) × (r .number ≡ s .number) ⌝ }
 {
     let done = flush(text, words, s.lines);
-    State {
+    Stream {
         from: s.from,
         to: s.to,
         lines: 0,
@@ -57,12 +58,12 @@ fn written(text: &mut [u8], words: &[u32], s: State) -> State
 }
 
 // The lines that wait are written, and there are no more.
-fn ended(text: &mut [u8], words: &[u32], s: State) -> State
+fn ended(text: &mut [u8], words: &[u32], s: Stream) -> Stream
     requires { ⌜ (s .lines * 66 ≤ length (now text)) × (s .lines * 6 ≤ length (now words)) ⌝ }
     ensures { λ r. ⌜ (r .from ≡ s .from) × (r .to ≡ s .to) × (r .lines ≡ 0) × (r .number ≡ s .number) × (r .more ≡ false) ⌝ }
 {
     flush(text, words, s.lines);
-    State {
+    Stream {
         from: s.from,
         to: s.to,
         lines: 0,
@@ -72,15 +73,15 @@ fn ended(text: &mut [u8], words: &[u32], s: State) -> State
 }
 
 // "After 15 or 16 it prints that line and stops"; at the end of the input there is none.
-fn stopped(text: &mut [u8], words: &mut [u32], s: State, last: Told) -> State
-    requires { ⌜ (65472 ≤ length (now text)) × (5952 ≤ length (now words)) × (s .lines < 992) × (s .number < 1000000000) ⌝ }
-    ensures { λ r. ⌜ (r .from ≡ s .from) × (r .to ≡ s .to) × (r .lines ≡ 0) × (r .number ≤ 1000000000) × (r .more ≡ false) ⌝ }
+fn stopped(text: &mut [u8], words: &mut [u32], s: Stream, last: Told) -> Stream
+    requires { ⌜ (65472 ≤ length (now text)) × (5952 ≤ length (now words)) × (s .lines < 992) × (s .number < mostEvents) ⌝ }
+    ensures { λ r. ⌜ (r .from ≡ s .from) × (r .to ≡ s .to) × (r .lines ≡ 0) × (r .number ≤ mostEvents) × (r .more ≡ false) ⌝ }
 {
     if last.number == 0 {
         return ended(text, words, s);
     }
     put_last(words, s.lines * 6, s.number + 1, last.kind, last.number);
-    let more = State {
+    let more = Stream {
         from: s.from,
         to: s.to,
         lines: s.lines + 1,
@@ -92,8 +93,8 @@ fn stopped(text: &mut [u8], words: &mut [u32], s: State, last: Told) -> State
 
 // More of the input behind what is left of it. There is room for it, so 0 bytes are the end of the input, and there a record
 // that is cut short is 15. A read that fails is not the end.
-fn read_on(bytes: &mut [u8], text: &mut [u8], words: &mut [u32], s: State, last: Told) -> State
-    requires { ⌜ (65472 ≤ length (now text)) × (5952 ≤ length (now words)) × (s .lines < 992) × (s .number < 1000000000) ⌝ }
+fn read_on(bytes: &mut [u8], text: &mut [u8], words: &mut [u32], s: Stream, last: Told) -> Stream
+    requires { ⌜ (65472 ≤ length (now text)) × (5952 ≤ length (now words)) × (s .lines < 992) × (s .number < mostEvents) ⌝ }
     requires { ⌜ Stands (length (now bytes)) s × (s .to - s .from < length (now bytes)) ⌝ }
     ensures { λ r. ⌜ Stands (length (now (bytes .entry))) r ⌝ }
 {
@@ -107,7 +108,7 @@ fn read_on(bytes: &mut [u8], text: &mut [u8], words: &mut [u32], s: State, last:
         return stopped(text, words, s, last);
     }
     let n = io::count(got, &bytes[left..]);
-    State {
+    Stream {
         from: 0,
         to: left + n,
         lines: s.lines,
@@ -117,7 +118,7 @@ fn read_on(bytes: &mut [u8], text: &mut [u8], words: &mut [u32], s: State, last:
 }
 
 // What is to be done where a run has stopped: lines to write, the last event, the last line, or more of the input.
-fn step(bytes: &mut [u8], text: &mut [u8], words: &mut [u32], s: State) -> State
+fn step(bytes: &mut [u8], text: &mut [u8], words: &mut [u32], s: Stream) -> Stream
     requires { ⌜ (18 ≤ length (now bytes)) × (65472 ≤ length (now text)) × (5952 ≤ length (now words)) ⌝ }
     requires { ⌜ Stands (length (now bytes)) s ⌝ }
     ensures { λ r. ⌜ Stands (length (now (bytes .entry))) r ⌝ }
@@ -125,7 +126,7 @@ fn step(bytes: &mut [u8], text: &mut [u8], words: &mut [u32], s: State) -> State
     if s.lines == 992 {
         return written(text, words, s);
     }
-    if s.number == 1000000000 {
+    if s.number == session::MOST_EVENTS {
         return ended(text, words, s);
     }
     let to = s.to;
@@ -141,22 +142,22 @@ fn step(bytes: &mut [u8], text: &mut [u8], words: &mut [u32], s: State) -> State
 }
 
 // The whole records of the bytes that wait, as far as there is room: their lines behind those that wait.
-fn run_on(board: Board, bytes: &[u8], words: &mut [u32], s: State) -> Ran
+fn run_on(state: State, bytes: &[u8], words: &mut [u32], s: Stream) -> Ran
     requires { ⌜ (length (now words) ≡ 5952) × Stands (length (now bytes)) s ⌝ }
-    ensures { λ r. ⌜ (s .from + r .taken ≤ s .to) × (s .lines + r .count ≤ 992) × (s .number + r .count ≤ 1000000000) ⌝ }
+    ensures { λ r. ⌜ (s .from + r .taken ≤ s .to) × (s .lines + r .count ≤ 992) × (s .number + r .count ≤ mostEvents) ⌝ }
 {
     let from = s.from;
     let to = s.to;
     let at = s.lines * 6;
-    session::run(board, s.number, &bytes[from..to], &mut words[at..])
+    session::run(state, s.number, &bytes[from..to], &mut words[at..])
 }
 
 // Where the program stands after a run: so many lines and bytes more.
-fn advanced(s: State, count: usize, taken: usize) -> State
-    requires { ⌜ (s .from + taken ≤ s .to) × (s .lines + count ≤ 992) × (s .number + count ≤ 1000000000) ⌝ }
+fn advanced(s: Stream, count: usize, taken: usize) -> Stream
+    requires { ⌜ (s .from + taken ≤ s .to) × (s .lines + count ≤ 992) × (s .number + count ≤ mostEvents) ⌝ }
     ensures { λ r. ⌜ (r .from ≡ s .from + taken) × (r .to ≡ s .to) × (r .lines ≡ s .lines + count) × (r .number ≡ s .number + count) ⌝ }
 {
-    State {
+    Stream {
         from: s.from + taken,
         to: s.to,
         lines: s.lines + count,
@@ -185,9 +186,8 @@ fn main() {
     let mut bytes = io::large_buffer();
     let mut text = io::large_buffer();
     let mut words = no_lines();
-    let made = Board::new(0, 0);
-    let mut board = made.board;
-    let mut s = State {
+    let mut state = steps::first_state();
+    let mut s = Stream {
         from: 0,
         to: 0,
         lines: 0,
@@ -196,9 +196,9 @@ fn main() {
     };
     let mut turns = streams::turns_left(headed(), u64::MAX);
     while 0 < turns {
-        let r = run_on(board, &bytes, &mut words, s);
-        let after = r.board;
-        board = after;
+        let r = run_on(state, &bytes, &mut words, s);
+        let after = r.state;
+        state = after;
         s = step(
             &mut bytes,
             &mut text,

@@ -112,15 +112,15 @@ module _ (b : Board) (a : Submission) (s : SoundBoard b) (k : Reachable b a) whe
   demand-3-none-missed = none-missed b a s k
 
   -- "asking on reaches its end"
-  pub demand-3-asking-on : (n : ℕ) (buffer : List ℕ) → 2 ≤ length buffer → length (openings (b .columns) (b .now) (liveOf b) a) ≤ n → asking b a n (pair 0 0) buffer ≡ openings (b .columns) (b .now) (liveOf b) a
+  pub demand-3-asking-on : (n : ℕ) (buffer : List ℕ) → 2 ≤ length buffer → length (openings (b .device .columns) (b .now) (liveOf b) a) ≤ n → asking b a n (pair 0 0) buffer ≡ openings (b .device .columns) (b .now) (liveOf b) a
   demand-3-asking-on = asking-from-none b a s k
 
   -- "Full takes the first and rejects exactly when there is none"
   pub demand-3-full : (buffer : List ℕ) → 2 ≤ length buffer → refusedSubmit b 3 a ≡ 0 → submitted b 3 a ≡ taken b a (head? (given b a (pair 0 0) buffer))
   demand-3-full = full-takes-given b a s k
 
-pub demand-3-full-first : (b : Board) (a : Submission) {c s f : ℕ} → submitted b 3 a .answer ≡ Placed c s f → (q : Place) → Opening (b .columns) (b .now) (liveOf b) a q → (q ≡ pair s c) ⊎ Before (pair s c) q
+pub demand-3-full-first : (b : Board) (a : Submission) {c s f : ℕ} → submitted b 3 a .answer ≡ Placed c s f → (q : Place) → Opening (b .device .columns) (b .now) (liveOf b) a q → (q ≡ pair s c) ⊎ Before (pair s c) q
 demand-3-full-first b a e = full-placed b a e
 
-pub demand-3-full-rejects : (b : Board) (a : Submission) → submitted b 3 a .answer ≡ Rejected → (q : Place) → Opening (b .columns) (b .now) (liveOf b) a q → ⊥
+pub demand-3-full-rejects : (b : Board) (a : Submission) → submitted b 3 a .answer ≡ Rejected → (q : Place) → Opening (b .device .columns) (b .now) (liveOf b) a q → ⊥
 demand-3-full-rejects = full-rejected

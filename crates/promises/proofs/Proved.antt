@@ -14,21 +14,20 @@ use Rattle.tasks.specs.Tasks.{meets, covers, holds, phaseAt, stamped, zeros, bo
 use Rattle.columns.specs.Columns.{join, runs, bestFit}
 use Rattle.planners.specs.Openings.{ways, full, pairWords}
 use Rattle.planners.specs.Planners.{free, release, visited, clearOfWaiting, candidates, releasedEdges, reference, horizon, stuffing, planned}
-use Rattle.slots.specs.Slots.{agree, taskSound, slotSound, together, sound, named, known, withBooked, agedTo, allAgedTo, withoutNamed, runsNamed}
+use Rattle.slots.specs.Slots.{taskSound, slotSound, together, sound, named, known, withBooked, agedTo, allAgedTo, withoutNamed, begunNamed}
 use Rattle.lookups.specs.Lookups.{horizonList, stripWords, busyColumns}
 use Rattle.board.specs.Answers.{told}
 use Rattle.board.specs.Calls.{orRefused, freshBoard, created, withTask, taken, answered, submitted, boardAt, clocked, withdrawn, remaining, opened, openedBuffer, listed, listedBuffer, counted}
 use Rattle.board.specs.Refusals.{refusal, refusedCreate, refusedSubmit, refusedInstant, refusedWithdraw, refusedOpenings, refusedHorizon}
-use Rattle.board.specs.Untested.{clockedUntested, withdrawnAt, withdrawnUntested}
 use Rattle.events.specs.Records.{bytesOf, numberOf, kindOf, bodyOf, recordOf, wholeOr15, readFrom, written, writtenBuffer, toldRead, toldWritten}
-use Rattle.session.specs.Recording.{lineOf, outcome, linesFrom, planLines}
+use Rattle.session.specs.Recording.{firstState, lineOf, outcome, linesFrom, planLines}
 use Rattle.promises.specs.Cases.{numbers, afterEvent, play, same, sameAll, passes, at, only}
 use Rattle.promises.specs.Edges.{refusedList, edgeSet, filled}
 use Rattle.promises.specs.ProvingSet.{played, tableWith, withClocks, firstSix, seven, listing, provingSet, twoRuns, waitingAhead, tellingSet, listingEvents, listingLines, recording}
 
 -- every definition of the book, opened so that it computes
 open-book : Unit {0}
-unfolding keep some? all? pairwise? head? orElse lastOr indexOf putFirst insertBy sortBy each firstOf range highest addTo rising isOpen pairsIn openingsIn after openingsAfter askedOn meets covers holds phaseAt stamped zeros booked join runs bestFit ways full free release visited clearOfWaiting candidates releasedEdges reference horizon stuffing planned agree taskSound slotSound together sound named known withBooked agedTo allAgedTo withoutNamed runsNamed horizonList stripWords busyColumns told orRefused freshBoard created withTask taken answered submitted boardAt clocked withdrawn remaining pairWords opened openedBuffer listed listedBuffer counted refusal refusedCreate refusedSubmit refusedInstant refusedWithdraw refusedOpenings refusedHorizon clockedUntested withdrawnAt withdrawnUntested bytesOf numberOf kindOf bodyOf recordOf wholeOr15 readFrom written writtenBuffer toldRead toldWritten lineOf outcome linesFrom planLines numbers afterEvent play same sameAll passes at only refusedList edgeSet filled played tableWith withClocks firstSix seven listing provingSet twoRuns waitingAhead tellingSet listingEvents listingLines recording
+unfolding keep some? all? pairwise? head? orElse lastOr indexOf putFirst insertBy sortBy each firstOf range highest addTo rising isOpen pairsIn openingsIn after openingsAfter askedOn meets covers holds phaseAt stamped zeros booked join runs bestFit ways full free release visited clearOfWaiting candidates releasedEdges reference horizon stuffing planned taskSound slotSound together sound named known withBooked agedTo allAgedTo withoutNamed begunNamed horizonList stripWords busyColumns told orRefused freshBoard created withTask taken answered submitted boardAt clocked withdrawn remaining pairWords opened openedBuffer listed listedBuffer counted refusal refusedCreate refusedSubmit refusedInstant refusedWithdraw refusedOpenings refusedHorizon bytesOf numberOf kindOf bodyOf recordOf wholeOr15 readFrom written writtenBuffer toldRead toldWritten lineOf outcome linesFrom planLines numbers afterEvent play same sameAll passes at only refusedList edgeSet filled played tableWith withClocks firstSix seven listing provingSet twoRuns waitingAhead tellingSet listingEvents listingLines recording
 open-book = tt
 
 -- CASES 1 TO 9 OF DOCUMENT 01
@@ -70,7 +69,7 @@ unfolding open-book
 nothing-printed = refl
 
 -- after as many events as are left to read it stops without a line, and that many are left at the start
-pub stops-silently : linesFrom 1 zeroBoard 6 (recordOf (NewBoard 4 1) ++ recordOf (Clock 2)) ≡ line 7 1 0 0 0 0 ∷ []
+pub stops-silently : linesFrom 1 firstState 6 (recordOf (NewBoard 4 1) ++ recordOf (Clock 2)) ≡ line 7 1 0 0 0 0 ∷ []
 unfolding open-book
 stops-silently = refl
 

@@ -15,27 +15,29 @@ use Rattle.lists.proofs.Append.{put-index}
 use Rattle.lists.proofs.Order.{Sorted, empty, next, sorted-keep}
 use Rattle.tasks.specs.declared.Task.{Task}
 use Rattle.tasks.specs.declared.Submission.{Submission}
-use Rattle.tasks.specs.Numbers.{deviceFits}
-use Rattle.tasks.specs.Tasks.{finish, live, runningPhase, phaseAt, stamped, freeSlot, booked}
-use Rattle.tasks.proofs.Laws.{Share}
+use Rattle.tasks.specs.Numbers.{device, deviceFits}
+use Rattle.tasks.specs.Tasks.{finish, live, waitingPhase, phaseAt, stamped, freeSlot, booked}
+use Rattle.tasks.proofs.Laws.{Share, is-waiting}
 use Rattle.ways.specs.Ways.{pair}
 use Rattle.planners.proofs.Openings.{Opening}
-use Rattle.slots.specs.Slots.{named, known, runsNamed, withoutNamed}
+use Rattle.slots.specs.Slots.{named, known, begunNamed, withoutNamed}
 use Rattle.slots.proofs.Soundness.{InPhase, running, waiting, SoundTask}
 use Rattle.slots.proofs.Ageing.{live-aged, stamped-live}
 use Rattle.board.specs.declared.Board.{Board}
 use Rattle.board.specs.declared.Answer.{Answer}
 use Rattle.board.specs.declared.Answer.the-variants.{Rejected, Placed, Refused}
-use Rattle.board.specs.Refusals.{_when_, refusal, liveOf, soundBoard, refusedInstant, refusedWithdraw}
+use Rattle.board.specs.Refusals.{liveOf, soundBoard, refusedInstant, refusedWithdraw}
 use Rattle.board.specs.Calls.{orRefused, withTasks, zeroBoard, created, submitted, boardAt, clocked, withdrawn}
-use Rattle.board.specs.Untested.{submittedBooked}
-use Rattle.board.proofs.Refusals.{none-holds}
+use Rattle.board.specs.Standing.{submittedBooked}
+use Rattle.refusals.proofs.First.{none-holds}
 use Rattle.board.proofs.Kept.{SoundBoard, submitted-sound, clocked-stays-sound, withdrawn-stays-sound, created-sound, zero-unsound, instant-passable, clocked-done, refused-clock-same, refused-withdraw-same}
 use Rattle.board.proofs.Submit.{submit-unsound}
-use Rattle.board.proofs.Untested.{clocked-unsound, withdrawn-unsound}
+use Rattle.board.proofs.Tested.{clocked-unsound, withdrawn-unsound}
 use Rattle.board.proofs.Placed.{placed-opens, BooksAt, placed-books, unplaced-same}
 use Rattle.events.specs.declared.Event.{Event}
 use Rattle.events.specs.declared.Event.the-variants.{NewBoard, Submit, Clock, Withdraw}
+use Rattle.steps.specs.declared.State.{State}
+use Rattle.steps.specs.Outcomes.{firstState, withBoard}
 use Rattle.session.specs.Recording.{outcome}
 use Rattle.steps.proofs.Steps.{created-not}
 use Rattle.promises.specs.Ledger.{entered, struck, ledgerAfter, Account, accountAfter}
@@ -109,7 +111,7 @@ after-place b ks o s n a i c t f e =
     p : BooksAt b n a (indexOf (λ k. not (live k)) (b .tasks)) c t f
     p = placed-books b n a refl e
 
-    w : Opening (b .columns) (b .now) (liveOf b) a (pair t c)
+    w : Opening (b .device .columns) (b .now) (liveOf b) a (pair t c)
     w = placed-opens b n a e .0
 
     after : Board
@@ -142,29 +144,33 @@ unfolding withdrawn orRefused
 withdrawn-done b n e = rw e
 
 -- a live task that was not struck is not the one withdrawn: of that id only a waiting task can be live
-kept-there : (b : Board) → SoundBoard b → (n : ℕ) → refusedWithdraw b n ≡ 0 → (l : Task) → T (not (eqb (l .id) n && ltb (b .now) (l .start))) → stamped (b .now) l ∈ b .tasks → T (live (stamped (b .now) l)) → stamped (b .now) l ∈ withoutNamed n (b .tasks)
-unfolding withoutNamed named runsNamed refusedWithdraw stamped
+kept-there : (b : Board) → SoundBoard b → (n : ℕ) → refusedWithdraw b n ≡ 0 → (l : Task) → T (not (eqb (l .id) n && waitingPhase (phaseAt (b .now) l))) → stamped (b .now) l ∈ b .tasks → T (live (stamped (b .now) l)) → stamped (b .now) l ∈ withoutNamed n (b .tasks)
+unfolding withoutNamed named begunNamed refusedWithdraw stamped
 kept-there b s n e l t m u = put-keeps (named n) freeSlot (b .tasks) m (not-T (named n (stamped (b .now) l)) (λ q. clash (and-r (live (stamped (b .now) l)) (eqb (l .id) n) q) (decLt (b .now) (l .start))))
   where
-    r13 : T (not (not (known n (b .tasks)))) × (refusal ((14 when runsNamed n (b .tasks)) ∷ []) ≡ 0)
-    r13 = none-holds 13 (not (known n (b .tasks))) _ (omega arith) (none-holds 1 _ _ (omega arith) e .1)
+    r14 : T (not (begunNamed n (b .tasks)))
+    r14 =
+        let r13 = none-holds 13 (not (known n (b .tasks))) _ (omega arith) (none-holds 1 _ _ (omega arith) e .1) in
+        none-holds 14 (begunNamed n (b .tasks)) _ (omega arith) (r13 .1) .0
 
-    r14 : T (not (runsNamed n (b .tasks)))
-    r14 = none-holds 14 (runsNamed n (b .tasks)) [] (omega arith) (r13 .1) .0
+    begun : Task → Bool
+    begun k = named n k && not (waitingPhase (k .phase))
 
-    task : SoundTask (b .columns) (b .rows) (b .now) (stamped (b .now) l)
+    task : SoundTask (b .device) (b .now) (stamped (b .now) l)
     task = s .tasks (stamped (b .now) l) m u
 
-    runs : (x : Task) → InPhase (b .now) x → x .start ≤ b .now → T (runningPhase (x .phase))
-    runs x (running q w) h = rw q tt
-    runs x (waiting q w) h = absurd (omega arith)
+    started : (x : Task) → InPhase (b .now) x → x .start ≤ b .now → T (not (waitingPhase (x .phase)))
+    started x (running q w) h = rw q tt
+    started x (waiting q w) h = absurd (omega arith)
 
     clash : T (eqb (l .id) n) → Dec (b .now < l .start) → ⊥
-    clash q (yes h) = T-not (eqb (l .id) n && ltb (b .now) (l .start)) t (and-i (eqb (l .id) n) (ltb (b .now) (l .start)) q (lt→ltb (b .now) (l .start) h))
+    clash q (yes h) =
+        let w = subst T (sym (is-waiting (b .now) l)) (lt→ltb (b .now) (l .start) h) in
+        T-not (eqb (l .id) n && waitingPhase (phaseAt (b .now) l)) t (and-i (eqb (l .id) n) (waitingPhase (phaseAt (b .now) l)) q w)
     clash q (no h) =
         let x = stamped (b .now) l in
-        T-not (named n x && runningPhase (x .phase)) (none-pass (λ k. named n k && runningPhase (k .phase)) (b .tasks) r14 m)
-        (and-i (named n x) (runningPhase (x .phase)) (and-i (live x) (eqb (l .id) n) u q) (runs x (task .phase) (omega arith)))
+        T-not (begun x) (none-pass begun (b .tasks) r14 m)
+        (and-i (named n x) (not (waitingPhase (x .phase))) (and-i (live x) (eqb (l .id) n) u q) (started x (task .phase) (omega arith)))
 
 -- a promise struck, the others as they were
 after-withdrawal : (b : Board) (ks : List Task) → Honest b ks → SoundBoard b → (n : ℕ) → refusedWithdraw b n ≡ 0 → Honest (withdrawn b n .board) (struck b (withdrawn b n .number) n ks)
@@ -179,7 +185,7 @@ after-withdrawal b ks o s n e =
     }))
   where
     stays : Task → Bool
-    stays k = not (eqb (k .id) n && ltb (b .now) (k .start))
+    stays k = not (eqb (k .id) n && waitingPhase (phaseAt (b .now) k))
 
     done : withdrawn b n ≡ record { number = 0; board = withTasks b (withoutNamed n (b .tasks)) }
     done = withdrawn-done b n e
@@ -197,18 +203,18 @@ module _ (b : Board) (ks : List Task) (o : Honest b ks) where
   same {c} {ls} e f = subst (λ x. Honest x ls) (sym e) (subst (λ x. Honest b x) (sym f) o)
 
   -- A NEW BOARD
-  honest-new : (W H : ℕ) → Honest (outcome b (NewBoard W H) .board) (ledgerAfter b ks (NewBoard W H))
+  honest-new : (W H : ℕ) → Honest (outcome (withBoard firstState b) (NewBoard W H) .state .board) (ledgerAfter (withBoard firstState b) ks (NewBoard W H))
   unfolding outcome ledgerAfter
-  honest-new W H = record { standing = go (deviceFits W H) refl; apart = empty; due = λ k m. absurd (nowhere m); stands = λ k m. absurd (nowhere m) }
+  honest-new W H = record { standing = go (deviceFits (device W H)) refl; apart = empty; due = λ k m. absurd (nowhere m); stands = λ k m. absurd (nowhere m) }
     where
-      go : (t : Bool) → deviceFits W H ≡ t → SoundBoard (created W H .board) ⊎ (created W H .board ≡ zeroBoard)
+      go : (t : Bool) → deviceFits (device W H) ≡ t → SoundBoard (created W H .board) ⊎ (created W H .board ≡ zeroBoard)
       go true e = inl (created-sound W H (rw e tt))
       go false e = inr (ap (λ x. x .board) (created-not W H e))
 
   -- on a sound board
   module _ (s : SoundBoard b) where
     -- THE CLOCK
-    honest-clock : (i : ℕ) → Honest (outcome b (Clock i) .board) (ledgerAfter b ks (Clock i))
+    honest-clock : (i : ℕ) → Honest (outcome (withBoard firstState b) (Clock i) .state .board) (ledgerAfter (withBoard firstState b) ks (Clock i))
     unfolding outcome ledgerAfter
     honest-clock i = go (refusedInstant b i) refl
       where
@@ -228,7 +234,7 @@ module _ (b : Board) (ks : List Task) (o : Honest b ks) where
             on-clock k x h d = after-clock b i k x h d
 
     -- A SUBMISSION
-    honest-submit : (n : ℕ) (a : Submission) → a .id ≤ 4294967295 → Honest (outcome b (Submit n a) .board) (ledgerAfter b ks (Submit n a))
+    honest-submit : (n : ℕ) (a : Submission) → a .id ≤ 4294967295 → Honest (outcome (withBoard firstState b) (Submit n a) .state .board) (ledgerAfter (withBoard firstState b) ks (Submit n a))
     unfolding outcome ledgerAfter
     honest-submit n a i = go (submitted b n a .answer) refl
       where
@@ -253,7 +259,7 @@ module _ (b : Board) (ks : List Task) (o : Honest b ks) where
             placed = after-place b ks o s n a i c t f e
 
     -- A WITHDRAWAL
-    honest-withdraw : (n : ℕ) → Honest (outcome b (Withdraw n) .board) (ledgerAfter b ks (Withdraw n))
+    honest-withdraw : (n : ℕ) → Honest (outcome (withBoard firstState b) (Withdraw n) .state .board) (ledgerAfter (withBoard firstState b) ks (Withdraw n))
     unfolding outcome ledgerAfter
     honest-withdraw n = go (refusedWithdraw b n) refl
       where
@@ -271,38 +277,45 @@ module _ (b : Board) (ks : List Task) (o : Honest b ks) where
     unsound : soundBoard b ≡ false
     unsound = ap soundBoard z ∙ zero-unsound
 
-    zero-clock : (i : ℕ) → Honest (outcome b (Clock i) .board) (ledgerAfter b ks (Clock i))
+    zero-clock : (i : ℕ) → Honest (outcome (withBoard firstState b) (Clock i) .state .board) (ledgerAfter (withBoard firstState b) ks (Clock i))
     unfolding outcome ledgerAfter
     zero-clock i = same (ap (λ x. x .board) (clocked-unsound b i unsound)) refl
 
-    zero-submit : (n : ℕ) (a : Submission) → Honest (outcome b (Submit n a) .board) (ledgerAfter b ks (Submit n a))
+    zero-submit : (n : ℕ) (a : Submission) → Honest (outcome (withBoard firstState b) (Submit n a) .state .board) (ledgerAfter (withBoard firstState b) ks (Submit n a))
     unfolding outcome ledgerAfter entered
     zero-submit n a = same (ap (λ x. x .board) (submit-unsound b n a unsound)) (ap (λ x. entered b a (x .answer) ks) (submit-unsound b n a unsound))
 
-    zero-withdraw : (n : ℕ) → Honest (outcome b (Withdraw n) .board) (ledgerAfter b ks (Withdraw n))
+    zero-withdraw : (n : ℕ) → Honest (outcome (withBoard firstState b) (Withdraw n) .state .board) (ledgerAfter (withBoard firstState b) ks (Withdraw n))
     unfolding outcome ledgerAfter struck
     zero-withdraw n = same (ap (λ x. x .board) (withdrawn-unsound b n unsound)) (ap (λ x. struck b (x .number) n ks) (withdrawn-unsound b n unsound))
 
 -- AFTER EVERY EVENT
-pub honest-event : (b : Board) (ks : List Task) (v : Event) → Named v → Honest b ks → Honest (outcome b v .board) (ledgerAfter b ks v)
-honest-event b ks v m o = go (o .standing) v m
+pub honest-event : (s : State) (ks : List Task) (v : Event) → Named v → Honest (s .board) ks → Honest (outcome s v .state .board) (ledgerAfter s ks v)
+honest-event s ks v m o = go (o .standing) v m
   where
-    go : SoundBoard b ⊎ (b ≡ zeroBoard) → (w : Event) → Named w → Honest (outcome b w .board) (ledgerAfter b ks w)
-    go s w (new W H) = honest-new b ks o W H
-    go (inl s) w (submit n a i) = honest-submit b ks o s n a i
-    go (inl s) w (clock i) = honest-clock b ks o s i
-    go (inl s) w (withdraw n) = honest-withdraw b ks o s n
+    b : Board
+    b = s .board
+
+    go : SoundBoard b ⊎ (b ≡ zeroBoard) → (w : Event) → Named w → Honest (outcome s w .state .board) (ledgerAfter s ks w)
+    go x w (new W H) = honest-new b ks o W H
+    go (inl x) w (submit n a i) = honest-submit b ks o x n a i
+    go (inl x) w (clock i) = honest-clock b ks o x i
+    go (inl x) w (withdraw n) = honest-withdraw b ks o x n
     go (inr z) w (submit n a i) = zero-submit b ks o z n a
     go (inr z) w (clock i) = zero-clock b ks o z i
     go (inr z) w (withdraw n) = zero-withdraw b ks o z n
 
 -- OVER A SESSION, from a board that is sound or is the board of zeros
-pub honest-session : (c : Account) (vs : List Event) → ((v : Event) → v ∈ vs → Named v) → Honest (c .board) (c .promises) → Honest (accountAfter c vs .board) (accountAfter c vs .promises)
+pub honest-session : (c : Account) (vs : List Event) → ((v : Event) → v ∈ vs → Named v) → Honest (c .state .board) (c .promises)
+    → Honest (accountAfter c vs .state .board) (accountAfter c vs .promises)
 unfolding accountAfter
 honest-session c [] f o = o
 honest-session c (v ∷ vs) f o =
-    honest-session (record { board = outcome (c .board) v .board; promises = ledgerAfter (c .board) (c .promises) v }) vs (λ w m. f w (there m)) (honest-event (c .board) (c .promises) v (f v (here refl)) o)
+    honest-session (record { state = outcome (c .state) v .state; promises = ledgerAfter (c .state) (c .promises) v }) vs (λ w m. f w (there m))
+    (honest-event (c .state) (c .promises) v (f v (here refl)) o)
 
-pub honest-from : (b : Board) (vs : List Event) → SoundBoard b ⊎ (b ≡ zeroBoard) → ((v : Event) → v ∈ vs → Named v)
-    → let c = accountAfter (record { board = b; promises = [] }) vs in Honest (c .board) (c .promises)
-honest-from b vs s f = honest-session (record { board = b; promises = [] }) vs f (record { standing = s; apart = empty; due = λ k m. absurd (nowhere m); stands = λ k m. absurd (nowhere m) })
+pub honest-from : (s : State) (vs : List Event) → SoundBoard (s .board) ⊎ (s .board ≡ zeroBoard) → ((v : Event) → v ∈ vs → Named v)
+    → let c = accountAfter (record { state = s; promises = [] }) vs in Honest (c .state .board) (c .promises)
+honest-from s vs x f =
+    honest-session (record { state = s; promises = [] }) vs f
+    (record { standing = x; apart = empty; due = λ k m. absurd (nowhere m); stands = λ k m. absurd (nowhere m) })

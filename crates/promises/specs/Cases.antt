@@ -9,7 +9,8 @@ use Rattle.board.specs.declared.Board.{Board}
 use Rattle.board.specs.Answers.{Told}
 use Rattle.board.specs.Calls.{created, opened, openedBuffer, listed, listedBuffer, counted}
 use Rattle.events.specs.declared.Event.the-variants.{NewBoard, Submit, Clock, Withdraw}
-use Rattle.session.specs.Recording.{Outcome, outcome}
+use Rattle.session.specs.Recording.{firstState, Outcome, outcome}
+use Rattle.steps.specs.Outcomes.{withBoard}
 
 -- a submission, in the order of document 01's cases
 abbrev pub task : ℕ → ℕ → ℕ → ℕ → ℕ → Submission
@@ -31,15 +32,15 @@ numbers a = a .number ∷ a .column ∷ a .start ∷ a .finish ∷ []
 
 -- an event's numbers, and the rest from the board that follows
 unfoldable pub afterEvent : Outcome → (Board → List (List ℕ)) → List (List ℕ)
-afterEvent r rest = numbers (r .answer) ∷ rest (r .board)
+afterEvent r rest = numbers (r .answer) ∷ rest (r .state .board)
 
 -- a list of numbers for each step: of a question, its number, its counts and the whole buffer
 unfoldable pub play : List Step → Board → List (List ℕ)
 play [] b = []
-play (board W H ∷ vs) b = afterEvent (outcome b (NewBoard W H)) (play vs)
-play (submit n id w h e d ∷ vs) b = afterEvent (outcome b (Submit n (task id w h e d))) (play vs)
-play (clock i ∷ vs) b = afterEvent (outcome b (Clock i)) (play vs)
-play (withdraw n ∷ vs) b = afterEvent (outcome b (Withdraw n)) (play vs)
+play (board W H ∷ vs) b = afterEvent (outcome (withBoard firstState b) (NewBoard W H)) (play vs)
+play (submit n id w h e d ∷ vs) b = afterEvent (outcome (withBoard firstState b) (Submit n (task id w h e d))) (play vs)
+play (clock i ∷ vs) b = afterEvent (outcome (withBoard firstState b) (Clock i)) (play vs)
+play (withdraw n ∷ vs) b = afterEvent (outcome (withBoard firstState b) (Withdraw n)) (play vs)
 play (horizon words ∷ vs) b =
     let r = listed b words in
     (r .number ∷ r .count ∷ listedBuffer b (replicate words 999)) ∷ play vs (r .board)

@@ -5,6 +5,7 @@ use lib.ListN.{replicate}
 use Rattle.lists.specs.Lists.{range}
 use Rattle.tasks.specs.declared.Phase.the-variants.{Running}
 use Rattle.tasks.specs.declared.Task.{Task}
+use Rattle.tasks.specs.Numbers.{device}
 use Rattle.board.specs.declared.Board.{Board}
 use Rattle.promises.specs.Cases.{board, submit, clock, withdraw, horizon, openings, busy, Case, case, at, only}
 
@@ -55,7 +56,7 @@ edgeSet =
 
 -- 64 columns and 64 live tasks, the task in column c with id c
 unfoldable pub filled : Board
-filled = record { tasks = map live (range 1 64); now = 0; columns = 64; rows = 1 }
+filled = record { tasks = map live (range 1 64); now = 0; device = device 64 1 }
   where
     live : ℕ → Task
     live c = record { id = c; e = 9; d = 9; start = 0; w = 1; h = 1; column = c; phase = Running }

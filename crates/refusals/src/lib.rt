@@ -1,33 +1,27 @@
-// The refusals of a call after number 1, the lowest first: the board is known to be sound.
+// The refusals of a call after number 1: the tests of document 01 in its order. The board is known to be sound.
 ghost use mathlib.Core.Path.{_≡_};
-ghost use mathlib.Core.Bool.{not};
-ghost use mathlib.Core.List.{[], _∷_};
-ghost use Prim.Native.Nat.{_+_};
-ghost use lib.Dec.{leb, ltb, eqb};
-ghost use Rattle.tasks.specs.Numbers.{sizeFits, timeFits};
-ghost use Rattle.refusals.specs.Refusals.{_when_, refusal};
+ghost use Rattle.refusals.specs.Refusals.{refusal, submitTests, instantTests, withdrawTests, openingsTests};
+use tasks::Device;
 use tasks::Submission;
 
-// The refusals of a submission after 1: 3 to 9, the lowest number first, 0 where none holds. `known`: the id is live already; `free`: the lowest free slot, 64
-// where all are taken.
-pub fn refuse(
-    planner: u8,
-    columns: u16,
-    rows: u16,
+// Of a submission: 3 to 9, 0 where none holds. `known`: the id is live already; `full`: no slot is free.
+pub fn refuse_submission(
+    on: Device,
     clock: u32,
+    planner: u8,
     a: Submission,
     known: bool,
-    free: usize,
+    full: bool,
 ) -> u8
-    ensures { λ r. ⌜ r ≡ refusal ((3 when ltb 3 planner) ∷ (4 when eqb (a .id) 0) ∷ (5 when not (sizeFits columns rows (a .w) (a .h))) ∷ (6 when not (timeFits (a .e) (a .d))) ∷ (7 when known) ∷ (8 when ltb (a .d) (clock + a .e)) ∷ (9 when leb 64 free) ∷ []) ⌝ }
+    ensures { λ r. ⌜ r ≡ refusal (submitTests on clock planner a known full) ⌝ }
 {
-    if 3 < planner {
+    if tasks::LAST_PLANNER < planner {
         return 3;
     }
     if a.id == 0 {
         return 4;
     }
-    if !tasks::size_fits(columns, rows, a.w, a.h) {
+    if !tasks::size_fits(on, a.w, a.h) {
         return 5;
     }
     if !tasks::time_fits(a.e, a.d) {
@@ -39,30 +33,43 @@ pub fn refuse(
     if (a.d as u64) < clock as u64 + a.e as u64 {
         return 8;
     }
-    if 64 <= free {
+    if full {
         return 9;
     }
     0
 }
 
-// The refusals of an instant after 1: 11 and 12, 0 where neither holds.
+// Of an instant: 11 and 12, 0 where neither holds.
 pub fn refuse_instant(clock: u32, instant: u32) -> u8
-    ensures { λ r. ⌜ r ≡ refusal ((11 when ltb instant clock) ∷ (12 when ltb 2000000000 instant) ∷ []) ⌝ }
+    ensures { λ r. ⌜ r ≡ refusal (instantTests clock instant) ⌝ }
 {
     if instant < clock {
         return 11;
     }
-    if instant > 2_000_000_000 {
+    if tasks::LAST_INSTANT < instant {
         return 12;
     }
     0
 }
 
-// The refusals of a request for openings after 1: 5, 6, 8. The id is not read.
-pub fn refuse_openings(columns: u16, rows: u16, clock: u32, a: Submission) -> u8
-    ensures { λ r. ⌜ r ≡ refusal ((5 when not (sizeFits columns rows (a .w) (a .h))) ∷ (6 when not (timeFits (a .e) (a .d))) ∷ (8 when ltb (a .d) (clock + a .e)) ∷ []) ⌝ }
+// Of a withdrawal: 13 and 14, 0 where neither holds. `known`: the id is live; `begun`: its task holds its columns already.
+pub fn refuse_withdrawal(known: bool, begun: bool) -> u8
+    ensures { λ r. ⌜ r ≡ refusal (withdrawTests known begun) ⌝ }
 {
-    if !tasks::size_fits(columns, rows, a.w, a.h) {
+    if !known {
+        return 13;
+    }
+    if begun {
+        return 14;
+    }
+    0
+}
+
+// Of a request for openings: 5, 6, 8, 0 where none holds. The id is not read.
+pub fn refuse_openings(on: Device, clock: u32, a: Submission) -> u8
+    ensures { λ r. ⌜ r ≡ refusal (openingsTests on clock a) ⌝ }
+{
+    if !tasks::size_fits(on, a.w, a.h) {
         return 5;
     }
     if !tasks::time_fits(a.e, a.d) {

@@ -5,7 +5,7 @@ use mathlib.Core.List.{List, _∷_, _++_}
 use native.Mathlib.Omega.{arith}
 use lib.ListN.{length, drop}
 use lib.Seq.{drop-drop}
-use Rattle.board.specs.declared.Board.{Board}
+use Rattle.steps.specs.declared.State.{State}
 use Rattle.events.specs.declared.Event.{Event}
 use Rattle.events.specs.declared.Reading.{Reading}
 use Rattle.events.specs.declared.Reading.the-variants.{End, Got, CutShort, Unknown}
@@ -15,14 +15,14 @@ use Rattle.session.proofs.Running.{ran-got}
 
 -- what the recording goes on with after a run
 abbrev pub goesOn : ℕ → ℕ → List ℕ → Run → List Line
-goesOn left n bytes r = linesFrom (left - length (r .lines)) (r .board) (n + length (r .lines)) (drop (r .taken) bytes)
+goesOn left n bytes r = linesFrom (left - length (r .lines)) (r .state) (n + length (r .lines)) (drop (r .taken) bytes)
 
-lines-got : (left : ℕ) (b : Board) (n : ℕ) (bytes : List ℕ) (v : Event) (size : ℕ) → readFrom bytes ≡ Got v size
-    → linesFrom (suc left) b n bytes ≡ lineOf (suc n) (kindOf v) (outcome b v .answer) ∷ linesFrom left (outcome b v .board) (suc n) (drop size bytes)
+lines-got : (left : ℕ) (b : State) (n : ℕ) (bytes : List ℕ) (v : Event) (size : ℕ) → readFrom bytes ≡ Got v size
+    → linesFrom (suc left) b n bytes ≡ lineOf (suc n) (kindOf v) (outcome b v .answer) ∷ linesFrom left (outcome b v .state) (suc n) (drop size bytes)
 unfolding linesFrom
 lines-got left b n bytes v size e = rw (e, linesFrom)
 
-pub run-lines : (left room : ℕ) (b : Board) (n : ℕ) (bytes : List ℕ) → room ≤ left → linesFrom left b n bytes ≡ ranFrom room b n bytes .lines ++ goesOn left n bytes (ranFrom room b n bytes)
+pub run-lines : (left room : ℕ) (b : State) (n : ℕ) (bytes : List ℕ) → room ≤ left → linesFrom left b n bytes ≡ ranFrom room b n bytes .lines ++ goesOn left n bytes (ranFrom room b n bytes)
 unfolding ranFrom
 run-lines left zero b n bytes h =
     let x : left ≡ left - 0 = omega arith in
@@ -37,21 +37,21 @@ run-lines (suc left) (suc room) b n bytes h = go (λ c m ws. run-lines left room
         let x : suc left ≡ suc left - 0 = omega arith in
         ap (λ m. linesFrom (suc left) b m bytes) y ∙ ap (λ m. linesFrom m b (n + 0) bytes) x ∙ sym (ap (λ r. r .lines ++ goesOn (suc left) n bytes r) e)
 
-    go : ((c : Board) (m : ℕ) (ws : List ℕ) → linesFrom left c m ws ≡ ranFrom room c m ws .lines ++ goesOn left m ws (ranFrom room c m ws)) → (r : Reading) → readFrom bytes ≡ r
+    go : ((c : State) (m : ℕ) (ws : List ℕ) → linesFrom left c m ws ≡ ranFrom room c m ws .lines ++ goesOn left m ws (ranFrom room c m ws)) → (r : Reading) → readFrom bytes ≡ r
         → linesFrom (suc left) b n bytes ≡ ranFrom (suc room) b n bytes .lines ++ goesOn (suc left) n bytes (ranFrom (suc room) b n bytes)
     go next End e = stopped (rw (e, ranFrom))
     go next (CutShort k) e = stopped (rw (e, ranFrom))
     go next (Unknown k) e = stopped (rw (e, ranFrom))
     go next (Got v size) e =
-        let r : Run = ranFrom room (outcome b v .board) (suc n) (drop size bytes) in
+        let r : Run = ranFrom room (outcome b v .state) (suc n) (drop size bytes) in
         let k : ℕ = length (r .lines) in
         let x : left - k ≡ suc left - suc k = omega arith in
         let y : suc n + k ≡ n + suc k = omega arith in
         lines-got left b n bytes v size e
         ∙ ap (λ ls. lineOf (suc n) (kindOf v) (outcome b v .answer) ∷ ls)
-        (next (outcome b v .board) (suc n) (drop size bytes)
+        (next (outcome b v .state) (suc n) (drop size bytes)
         ∙ ap (λ ls. r .lines ++ ls)
-        (ap (λ m. linesFrom m (r .board) (suc n + k) (drop (r .taken) (drop size bytes))) x
-        ∙ ap (λ m. linesFrom (suc left - suc k) (r .board) m (drop (r .taken) (drop size bytes))) y
-        ∙ ap (λ ws. linesFrom (suc left - suc k) (r .board) (n + suc k) ws) (drop-drop (r .taken) size bytes)))
+        (ap (λ m. linesFrom m (r .state) (suc n + k) (drop (r .taken) (drop size bytes))) x
+        ∙ ap (λ m. linesFrom (suc left - suc k) (r .state) m (drop (r .taken) (drop size bytes))) y
+        ∙ ap (λ ws. linesFrom (suc left - suc k) (r .state) (n + suc k) ws) (drop-drop (r .taken) size bytes)))
         ∙ sym (ap (λ (q : Run). q .lines ++ goesOn (suc left) n bytes q) (ran-got room b n bytes v size e))

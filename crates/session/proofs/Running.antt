@@ -12,39 +12,39 @@ use Rattle.tasks.specs.Tasks.{freeSlot}
 use lib.Seq.{sets, sets-eq, length-sets, drop-drop}
 use Rattle.lists.specs.Lists.{overFront}
 use Rattle.lists.proofs.Stores.{sets-append}
+use Rattle.tasks.specs.declared.Device.{Device}
 use Rattle.tasks.specs.declared.Task.{Task}
 use Rattle.slots.specs.Slots.{sound, allAgedTo}
 use Rattle.slots.proofs.Soundness.{sound-out}
 use Rattle.slots.proofs.Ageing.{aged-now}
 use Rattle.survey.specs.declared.Findings.{Findings}
 use Rattle.pairs.specs.Pairs.{Stood}
-use Rattle.board.specs.declared.Board.{Board}
-use Rattle.board.specs.Untested.{boardOf}
 use Rattle.events.specs.declared.Event.{Event}
 use Rattle.events.specs.declared.Reading.{Reading}
 use Rattle.events.specs.declared.Reading.the-variants.{End, Got, CutShort, Unknown}
 use Rattle.events.specs.Records.{kindOf, readFrom}
 use Rattle.events.proofs.Calls.{taken-there}
-use Rattle.steps.specs.declared.Device.{Device}
+use Rattle.steps.specs.declared.Brief.{Brief}
+use Rattle.steps.specs.declared.State.{State}
 use Rattle.steps.specs.declared.Change.{Change}
 use Rattle.steps.specs.declared.Change.the-variants.{Nothing, Booked, Freed, Cleared}
 use Rattle.steps.specs.declared.Done.{Done}
 use Rattle.session.specs.declared.Whole.{Whole}
-use Rattle.session.specs.Recording.{Line, lineOf, Outcome, outcome, Run, still, ranFrom, lineWords, roomFor, ran, ranBuffer}
-use Rattle.steps.specs.Standing.{Keeps, Follows, asBooked, changed}
+use Rattle.session.specs.Recording.{mostEvents, Line, lineOf, Outcome, outcome, Run, still, ranFrom, lineWords, roomFor, ran, ranBuffer}
+use Rattle.steps.specs.Standing.{stateOf, Keeps, Follows, asBooked, changed}
 use Rattle.session.specs.Standing.{Took}
 
 -- a whole record, and none
-pub ran-got : (m : ℕ) (b : Board) (n : ℕ) (bytes : List ℕ) (v : Event) (size : ℕ) → readFrom bytes ≡ Got v size
-    → ranFrom (suc m) b n bytes ≡ record { lines = lineOf (suc n) (kindOf v) (outcome b v .answer) ∷ ranFrom m (outcome b v .board) (suc n) (drop size bytes) .lines; board = ranFrom m (outcome b v .board) (suc n) (drop size bytes) .board; taken = size + ranFrom m (outcome b v .board) (suc n) (drop size bytes) .taken }
+pub ran-got : (m : ℕ) (b : State) (n : ℕ) (bytes : List ℕ) (v : Event) (size : ℕ) → readFrom bytes ≡ Got v size
+    → ranFrom (suc m) b n bytes ≡ record { lines = lineOf (suc n) (kindOf v) (outcome b v .answer) ∷ ranFrom m (outcome b v .state) (suc n) (drop size bytes) .lines; state = ranFrom m (outcome b v .state) (suc n) (drop size bytes) .state; taken = size + ranFrom m (outcome b v .state) (suc n) (drop size bytes) .taken }
 unfolding ranFrom
 ran-got m b n bytes v size e = rw (e, ranFrom)
 
-ran-zero : (b : Board) (n : ℕ) (bytes : List ℕ) → ranFrom zero b n bytes ≡ still b
+ran-zero : (b : State) (n : ℕ) (bytes : List ℕ) → ranFrom zero b n bytes ≡ still b
 unfolding ranFrom
 ran-zero b n bytes = refl
 
-pub ran-none : (m : ℕ) (b : Board) (n : ℕ) (bytes : List ℕ) → ((v : Event) (size : ℕ) → readFrom bytes ≡ Got v size → ⊥) → ranFrom m b n bytes ≡ still b
+pub ran-none : (m : ℕ) (b : State) (n : ℕ) (bytes : List ℕ) → ((v : Event) (size : ℕ) → readFrom bytes ≡ Got v size → ⊥) → ranFrom m b n bytes ≡ still b
 unfolding ranFrom
 ran-none zero b n bytes f = refl
 ran-none (suc m) b n bytes f = go (readFrom bytes) refl
@@ -83,28 +83,28 @@ unfolding changed
 changed-cleared tasks e q = rw e (ap (replicate 64) q)
 
 -- after n events
-pub record Running (b : Board) (number most : ℕ) (bytes lent answers : List ℕ) (tasks : List Task) (live masks : List ℕ) (d : Device) (turns at n : ℕ) : Type 0 where
+pub record Running (b : State) (number most : ℕ) (bytes lent answers : List ℕ) (tasks : List Task) (live masks : List ℕ) (d : Brief) (turns at n : ℕ) : Type 0 where
   pub slots : List Task
   pub keeps : Keeps d slots live masks
   pub size : length tasks ≡ 64
   pub records : slots ≡ asBooked d tasks
   pub done : List Line
-  pub lines : ranFrom most b number bytes .lines ≡ done ++ ranFrom (most - n) (boardOf slots (d .clock) (d .columns) (d .rows)) (number + n) (drop at bytes) .lines
-  pub board : ranFrom most b number bytes .board ≡ ranFrom (most - n) (boardOf slots (d .clock) (d .columns) (d .rows)) (number + n) (drop at bytes) .board
-  pub taken : ranFrom most b number bytes .taken ≡ at + ranFrom (most - n) (boardOf slots (d .clock) (d .columns) (d .rows)) (number + n) (drop at bytes) .taken
+  pub lines : ranFrom most b number bytes .lines ≡ done ++ ranFrom (most - n) (stateOf slots d) (number + n) (drop at bytes) .lines
+  pub state : ranFrom most b number bytes .state ≡ ranFrom (most - n) (stateOf slots d) (number + n) (drop at bytes) .state
+  pub taken : ranFrom most b number bytes .taken ≡ at + ranFrom (most - n) (stateOf slots d) (number + n) (drop at bytes) .taken
   pub words : answers ≡ sets lent 0 (lineWords done)
   pub count : n ≡ length done
   pub upto : n ≤ turns
   pub bound : turns ≤ most
   pub inside : at ≤ length bytes
-  pub goes-on : (turns ≡ most) ⊎ ((turns ≡ n) × (ranFrom (most - n) (boardOf slots (d .clock) (d .columns) (d .rows)) (number + n) (drop at bytes) ≡ still (boardOf slots (d .clock) (d .columns) (d .rows))))
+  pub goes-on : (turns ≡ most) ⊎ ((turns ≡ n) × (ranFrom (most - n) (stateOf slots d) (number + n) (drop at bytes) ≡ still (stateOf slots d)))
 
 -- AT THE BEGIN: the board that was handed over, tested once
-pub run-begin : (tasks : List Task) (clock columns rows number most : ℕ) (bytes lent live masks : List ℕ) (v : Findings) → Stood columns rows clock tasks live masks v
-    → Running (boardOf tasks clock columns rows) number most bytes lent lent tasks live masks
-    (record { clock = clock; columns = columns; rows = rows; count = v .count; used = v .used; sound = v .sound }) most 0 0
+pub run-begin : (tasks : List Task) (clock : ℕ) (D : Device) (number most : ℕ) (bytes lent live masks : List ℕ) (v : Findings) → Stood D clock tasks live masks v
+    → let d : Brief = record { clock = clock; device = D; count = v .count; used = v .used; sound = v .sound } in
+    Running (stateOf tasks d) number most bytes lent lent tasks live masks d most 0 0
 unfolding lineWords
-run-begin tasks clock columns rows number most bytes lent live masks v o = record {
+run-begin tasks clock D number most bytes lent live masks v o = record {
   slots = tasks;
   keeps = record {
     slots = o .tested .slots;
@@ -118,9 +118,9 @@ run-begin tasks clock columns rows number most bytes lent live masks v o = recor
   size = o .tested .slots;
   records = as-booked (v .sound) (o .tested .sound);
   done = [];
-  lines = ap (λ x. ranFrom x (boardOf tasks clock columns rows) number bytes .lines) first ∙ ap (λ x. ranFrom (most - 0) (boardOf tasks clock columns rows) x bytes .lines) start;
-  board = ap (λ x. ranFrom x (boardOf tasks clock columns rows) number bytes .board) first ∙ ap (λ x. ranFrom (most - 0) (boardOf tasks clock columns rows) x bytes .board) start;
-  taken = ap (λ x. ranFrom x (boardOf tasks clock columns rows) number bytes .taken) first ∙ ap (λ x. ranFrom (most - 0) (boardOf tasks clock columns rows) x bytes .taken) start ∙ sym (zero-add _);
+  lines = ap (λ x. ranFrom x (begun) number bytes .lines) first ∙ ap (λ x. ranFrom (most - 0) (begun) x bytes .lines) start;
+  state = ap (λ x. ranFrom x (begun) number bytes .state) first ∙ ap (λ x. ranFrom (most - 0) (begun) x bytes .state) start;
+  taken = ap (λ x. ranFrom x (begun) number bytes .taken) first ∙ ap (λ x. ranFrom (most - 0) (begun) x bytes .taken) start ∙ sym (zero-add _);
   words = refl;
   count = refl;
   upto = omega arith;
@@ -129,17 +129,20 @@ run-begin tasks clock columns rows number most bytes lent live masks v o = recor
   goes-on = inl refl;
 }
   where
+    begun : State
+    begun = record { board = record { tasks = tasks; now = clock; device = D } }
+
     first : most ≡ most - 0
     first = omega arith
 
     start : number ≡ number + 0
     start = omega arith
 
-    as-booked : (x : Bool) → x ≡ sound columns rows clock tasks → tasks ≡ cond x (allAgedTo clock tasks) tasks
-    as-booked true e = sym (aged-now columns rows clock tasks (sound-out columns rows clock tasks (subst T e tt)))
+    as-booked : (x : Bool) → x ≡ sound D clock tasks → tasks ≡ cond x (allAgedTo clock tasks) tasks
+    as-booked true e = sym (aged-now D clock tasks (sound-out D clock tasks (subst T e tt)))
     as-booked false e = refl
 
-module _ {b : Board} {number most : ℕ} {bytes lent answers : List ℕ} {tasks : List Task} {live masks : List ℕ} {d : Device} {turns at n : ℕ} (o : Running b number most bytes lent answers tasks live masks d turns at n) where
+module _ {b : State} {number most : ℕ} {bytes lent answers : List ℕ} {tasks : List Task} {live masks : List ℕ} {d : Brief} {turns at n : ℕ} (o : Running b number most bytes lent answers tasks live masks d turns at n) where
   pub same-room : length answers ≡ length lent
   same-room = ap length (o .words) ∙ length-sets lent 0 (lineWords (o .done))
 
@@ -152,24 +155,24 @@ module _ {b : Board} {number most : ℕ} {bytes lent answers : List ℕ} {tasks 
     records = o .records;
     done = o .done;
     lines = o .lines;
-    board = o .board;
+    state = o .state;
     taken = o .taken;
     words = o .words;
     count = o .count;
     upto = omega arith;
     bound = omega (arith, o .upto, o .bound);
     inside = o .inside;
-    goes-on = inr (refl, ran-none (most - n) (boardOf (o .slots) (d .clock) (d .columns) (d .rows)) (number + n) (drop at bytes) (t .none e));
+    goes-on = inr (refl, ran-none (most - n) (stateOf (o .slots) d) (number + n) (drop at bytes) (t .none e));
   }
 
   -- AN EVENT MORE
   module _ (h : n < turns) {w : Whole} (t : Took (drop at bytes) w) (p : 0 < w .size) {e : Done} {live′ masks′ : List ℕ}
-      (q : (ks : List Task) → Keeps d ks live masks → Follows d ks (outcome (boardOf ks (d .clock) (d .columns) (d .rows)) (w .event)) e live′ masks′)
+      (q : (ks : List Task) → Keeps d ks live masks → Follows d ks (outcome (stateOf ks d) (w .event)) e live′ masks′)
       {after : List ℕ} {kind : ℕ} (k : kind ≡ kindOf (w .event))
       (a : after ≡ sets answers (n * 6) ((number + n + 1) ∷ kind ∷ e .number ∷ e .column ∷ e .start ∷ e .finish ∷ []))
       {next : List Task} (c : next ≡ changed (e .change) tasks) (z : length next ≡ 64) where
-    abbrev now : Board
-    now = boardOf (o .slots) (d .clock) (d .columns) (d .rows)
+    abbrev now : State
+    now = stateOf (o .slots) d
 
     abbrev out : Outcome
     out = outcome now (w .event)
@@ -178,7 +181,7 @@ module _ {b : Board} {number most : ℕ} {bytes lent answers : List ℕ} {tasks 
     line = lineOf (suc (number + n)) (kindOf (w .event)) (out .answer)
 
     abbrev later : Run
-    later = ranFrom (most - (n + 1)) (boardOf (out .board .tasks) (e .device .clock) (e .device .columns) (e .device .rows)) (number + (n + 1)) (drop (at + w .size) bytes)
+    later = ranFrom (most - (n + 1)) (stateOf (out .state .board .tasks) (e .brief)) (number + (n + 1)) (drop (at + w .size) bytes)
 
     g : Follows d (o .slots) out e live′ masks′
     g = q (o .slots) (o .keeps)
@@ -191,29 +194,29 @@ module _ {b : Board} {number most : ℕ} {bytes lent answers : List ℕ} {tasks 
         pick (inr x) = absurd (omega (arith, x .0))
 
     -- one record off what is left
-    one : ranFrom (most - n) now (number + n) (drop at bytes) ≡ record { lines = line ∷ later .lines; board = later .board; taken = w .size + later .taken }
+    one : ranFrom (most - n) now (number + n) (drop at bytes) ≡ record { lines = line ∷ later .lines; state = later .state; taken = w .size + later .taken }
     one =
         let m : most - n ≡ suc (most - (n + 1)) = omega (arith, full) in
         let c1 : suc (number + n) ≡ number + (n + 1) = omega arith in
         ap (λ x. ranFrom x now (number + n) (drop at bytes)) m ∙ ran-got (most - (n + 1)) now (number + n) (drop at bytes) (w .event) (w .size) (t .got p)
-        ∙ ap (λ (x : Run). record { lines = line ∷ x .lines; board = x .board; taken = w .size + x .taken })
-        (ap (λ x. ranFrom (most - (n + 1)) (out .board) x (drop (w .size) (drop at bytes))) c1
-        ∙ ap (λ x. ranFrom (most - (n + 1)) (out .board) (number + (n + 1)) x) (drop-drop (w .size) at bytes)
+        ∙ ap (λ (x : Run). record { lines = line ∷ x .lines; state = x .state; taken = w .size + x .taken })
+        (ap (λ x. ranFrom (most - (n + 1)) (out .state) x (drop (w .size) (drop at bytes))) c1
+        ∙ ap (λ x. ranFrom (most - (n + 1)) (out .state) (number + (n + 1)) x) (drop-drop (w .size) at bytes)
         ∙ ap (λ x. ranFrom (most - (n + 1)) x (number + (n + 1)) (drop (at + w .size) bytes)) there)
       where
-        there : out .board ≡ boardOf (out .board .tasks) (e .device .clock) (e .device .columns) (e .device .rows)
-        there = λ i. record { tasks = out .board .tasks; now = sym (g .clock) i; columns = sym (g .columns) i; rows = sym (g .height) i }
+        there : out .state ≡ stateOf (out .state .board .tasks) (e .brief)
+        there = λ i. record { board = record { tasks = out .state .board .tasks; now = sym (g .clock) i; device = sym (g .device) i } }
 
-    pub run-more : Running b number most bytes lent after next live′ masks′ (e .device) turns (at + w .size) (n + 1)
+    pub run-more : Running b number most bytes lent after next live′ masks′ (e .brief) turns (at + w .size) (n + 1)
     unfolding lineWords lineOf
     run-more = record {
-      slots = out .board .tasks;
+      slots = out .state .board .tasks;
       keeps = g .keeps;
       size = z;
-      records = g .records tasks (o .size) (o .records) ∙ ap (asBooked (e .device)) (sym c);
+      records = g .records tasks (o .size) (o .records) ∙ ap (asBooked (e .brief)) (sym c);
       done = o .done ++ (line ∷ []);
       lines = o .lines ∙ ap (λ (x : Run). o .done ++ x .lines) one ∙ sym (append-assoc (o .done) (line ∷ []) (later .lines));
-      board = o .board ∙ ap (λ (x : Run). x .board) one;
+      state = o .state ∙ ap (λ (x : Run). x .state) one;
       taken = o .taken ∙ ap (λ (x : Run). at + x .taken) one ∙ (let y : at + (w .size + later .taken) ≡ at + w .size + later .taken = omega arith in y);
       words =
           let behind : n * 6 ≡ 0 + length (lineWords (o .done)) = omega (arith, words-length (o .done), o .count) in
@@ -231,26 +234,26 @@ module _ {b : Board} {number most : ℕ} {bytes lent answers : List ℕ} {tasks 
 
   -- AFTER THE LAST
   module _ (h : turns ≤ n) (m : most ≡ roomFor (length lent) number) {after : List Task} (c : after ≡ asBooked d tasks) where
-    ended : ranFrom (most - n) (boardOf (o .slots) (d .clock) (d .columns) (d .rows)) (number + n) (drop at bytes) ≡ still (boardOf (o .slots) (d .clock) (d .columns) (d .rows))
+    ended : ranFrom (most - n) (stateOf (o .slots) d) (number + n) (drop at bytes) ≡ still (stateOf (o .slots) d)
     ended = pick (o .goes-on)
       where
-        stopped : (x : ℕ) → x ≡ 0 → ranFrom x (boardOf (o .slots) (d .clock) (d .columns) (d .rows)) (number + n) (drop at bytes) ≡ still (boardOf (o .slots) (d .clock) (d .columns) (d .rows))
+        stopped : (x : ℕ) → x ≡ 0 → ranFrom x (stateOf (o .slots) d) (number + n) (drop at bytes) ≡ still (stateOf (o .slots) d)
         stopped zero y = ran-zero _ _ _
         stopped (suc x) y = absurd (omega arith)
 
-        pick : (turns ≡ most) ⊎ ((turns ≡ n) × (ranFrom (most - n) (boardOf (o .slots) (d .clock) (d .columns) (d .rows)) (number + n) (drop at bytes) ≡ still (boardOf (o .slots) (d .clock) (d .columns) (d .rows))))
-            → ranFrom (most - n) (boardOf (o .slots) (d .clock) (d .columns) (d .rows)) (number + n) (drop at bytes) ≡ still (boardOf (o .slots) (d .clock) (d .columns) (d .rows))
+        pick : (turns ≡ most) ⊎ ((turns ≡ n) × (ranFrom (most - n) (stateOf (o .slots) d) (number + n) (drop at bytes) ≡ still (stateOf (o .slots) d)))
+            → ranFrom (most - n) (stateOf (o .slots) d) (number + n) (drop at bytes) ≡ still (stateOf (o .slots) d)
         pick (inl x) = stopped (most - n) (omega arith)
         pick (inr x) = x .1
 
     every : ranFrom most b number bytes .lines ≡ o .done
     every = o .lines ∙ ap (λ (x : Run). o .done ++ x .lines) ended ∙ append-nil (o .done)
 
-    pub run-end : (record { count = n; taken = at; board = boardOf after (d .clock) (d .columns) (d .rows) } ≡ ran b number bytes (length lent))
-        × ((answers ≡ ranBuffer b number bytes lent) × ((n * 6 ≤ length lent) × (at ≤ length bytes) × (number ≤ 1000000000 → number + n ≤ 1000000000)))
+    pub run-end : (record { count = n; taken = at; state = stateOf after d } ≡ ran b number bytes (length lent))
+        × ((answers ≡ ranBuffer b number bytes lent) × ((n * 6 ≤ length lent) × (at ≤ length bytes) × (number ≤ mostEvents → number + n ≤ mostEvents)))
     unfolding ran ranBuffer
     run-end = (
-      rw (← m) (λ i. record { count = counted i; taken = bytes-taken i; board = follows i }),
+      rw (← m) (λ i. record { count = counted i; taken = bytes-taken i; state = follows i }),
       (
         rw (← m) (o .words ∙ sets-eq (lineWords (o .done)) lent 0 (omega (arith, words-length (o .done), o .count, o .upto, o .bound)) ∙ rw zero-add (ap (λ x. overFront (lineWords x) lent) (sym every))),
         (omega (arith, o .upto, o .bound), o .inside, λ x. omega (arith, o .upto, o .bound)),
@@ -263,5 +266,5 @@ module _ {b : Board} {number most : ℕ} {bytes lent answers : List ℕ} {tasks 
         bytes-taken : at ≡ ranFrom most b number bytes .taken
         bytes-taken = (let y : at ≡ at + 0 = omega arith in y) ∙ sym (o .taken ∙ ap (λ (x : Run). at + x .taken) ended)
 
-        follows : boardOf after (d .clock) (d .columns) (d .rows) ≡ ranFrom most b number bytes .board
-        follows = ap (λ x. boardOf x (d .clock) (d .columns) (d .rows)) (c ∙ sym (o .records)) ∙ sym (o .board ∙ ap (λ (x : Run). x .board) ended)
+        follows : stateOf after d ≡ ranFrom most b number bytes .state
+        follows = ap (λ x. stateOf x d) (c ∙ sym (o .records)) ∙ sym (o .state ∙ ap (λ (x : Run). x .state) ended)

@@ -1,26 +1,30 @@
 // The run of a recording. The board that it is handed is tested once; inside, soundness is carried by proof. No board is copied: the
-// slots stand apart as arrays of numbers, and the records are brought up to the clock at the end.
+// live tasks stand in one table, and the records are brought up to the clock at the end.
 ghost use mathlib.Core.Path.{_≡_};
 ghost use mathlib.Core.List.{[], _∷_};
 ghost use Prim.Native.Nat.{_+_, _-_, _*_, _≤_, _<_};
 ghost use lib.ListN.{length, drop};
 ghost use lib.Seq.{sets};
 ghost use Rattle.tasks.specs.declared.Task.{Task};
-ghost use Rattle.session.specs.Recording.{roomFor, ran, ranBuffer};
+ghost use Rattle.session.specs.Recording.{mostEvents, roomFor, ran, ranBuffer};
 ghost use Rattle.steps.specs.Standing.{asBooked};
 ghost use Rattle.session.specs.Standing.{Took};
 use board::Board;
 use events::Event;
 use events::Reading;
+use steps::Brief;
 use steps::Change;
-use steps::Device;
+use steps::State;
 use tasks::Task;
 
-// How many whole records were taken, their bytes, and the board that follows.
+// "it also stops, without a line, after 1,000,000,000 events".
+pub const MOST_EVENTS: u32 = 1_000_000_000;
+
+// How many whole records were taken, their bytes, and the state that follows.
 pub struct Ran {
     pub count: usize,
     pub taken: usize,
-    pub board: Board,
+    pub state: State,
 }
 
 // "event number from 1, kind, answer, column, start, finish"
@@ -49,10 +53,10 @@ pub fn put_line(
 fn room(words: usize, number: u32) -> usize
     ensures { λ r. ⌜ r ≡ roomFor words number ⌝ }
 {
-    if 1_000_000_000 < number {
+    if MOST_EVENTS < number {
         return 0;
     }
-    let left = (1_000_000_000 - number) as usize;
+    let left = (MOST_EVENTS - number) as usize;
     let fit = words / 6;
     if fit < left { fit } else { left }
 }
@@ -89,7 +93,7 @@ fn next(bytes: &[u8], at: usize) -> Whole
 }
 
 // The records brought up to the clock.
-fn brought(tasks: [Task; 64], d: Device) -> [Task; 64]
+fn brought(tasks: [Task; 64], d: Brief) -> [Task; 64]
     ensures { λ r. ⌜ r ≡ asBooked d tasks ⌝ }
 {
     if d.sound {
@@ -98,28 +102,22 @@ fn brought(tasks: [Task; 64], d: Device) -> [Task; 64]
     tasks
 }
 
-// A recording's whole records from a board on, of which `number` events are done: six words a line into the lent buffer. It stops
+// A recording's whole records from a state on, of which `number` events are done: six words a line into the lent buffer. It stops
 // before a record that is cut short or of no known kind; `events::read_at` tells its caller which.
-pub fn run(board: Board, number: u32, bytes: &[u8], answers: &mut [u32]) -> Ran
-    ensures { λ r. ⌜ r ≡ ran board number (now (bytes .entry)) (length (now (answers .entry))) ⌝ }
-    ensures { λ r. ⌜ now (answers .exit) ≡ ranBuffer board number (now (bytes .entry)) (now (answers .entry)) ⌝ }
-    ensures { λ r. ⌜ (r .count * 6 ≤ length (now (answers .entry))) × (r .taken ≤ length (now (bytes .entry))) × (number ≤ 1000000000 → number + r .count ≤ 1000000000) ⌝ }
+pub fn run(state: State, number: u32, bytes: &[u8], answers: &mut [u32]) -> Ran
+    ensures { λ r. ⌜ r ≡ ran state number (now (bytes .entry)) (length (now (answers .entry))) ⌝ }
+    ensures { λ r. ⌜ now (answers .exit) ≡ ranBuffer state number (now (bytes .entry)) (now (answers .entry)) ⌝ }
+    ensures { λ r. ⌜ (r .count * 6 ≤ length (now (answers .entry))) × (r .taken ≤ length (now (bytes .entry))) × (number ≤ mostEvents → number + r .count ≤ mostEvents) ⌝ }
 {
+    let board = state.board;
     let mut tasks = board.tasks;
+    let on = board.device;
     let mut live = [0u32; 384];
     let mut masks = [0u64; 256];
-    let v = pairs::stand(
-        board.columns,
-        board.rows,
-        board.now,
-        tasks,
-        &mut live,
-        &mut masks,
-    );
-    let mut d = Device {
+    let v = pairs::stand(on, board.now, tasks, &mut live, &mut masks);
+    let mut d = Brief {
         clock: board.now,
-        columns: board.columns,
-        rows: board.rows,
+        device: on,
         count: v.count,
         used: v.used,
         sound: v.sound,
@@ -146,7 +144,7 @@ pub fn run(board: Board, number: u32, bytes: &[u8], answers: &mut [u32]) -> Ran
                 r.start,
                 r.finish,
             );
-            d = r.device;
+            d = r.brief;
             at += size;
             n += 1;
             let change = r.change;
@@ -166,14 +164,16 @@ pub fn run(board: Board, number: u32, bytes: &[u8], answers: &mut [u32]) -> Ran
         }
     }
     let after = brought(tasks, d);
+    let then = d.device;
     Ran {
         count: n,
         taken: at,
-        board: Board {
-            tasks: after,
-            now: d.clock,
-            columns: d.columns,
-            rows: d.rows,
+        state: State {
+            board: Board {
+                tasks: after,
+                now: d.clock,
+                device: then,
+            },
         },
     }
 }

@@ -35,7 +35,7 @@ tasksText slot (k ∷ ks) (s ∷ shown) = cond (live k) (taskText slot s) [] ++ 
 
 -- "a row `W H now`, then a row .. for each live task by slot, slots counted from 1"
 unfoldable pub shownText : Board → List Task → List ℕ
-shownText b shown = rowText (b .columns ∷ b .rows ∷ b .now ∷ []) ++ tasksText 1 (b .tasks) shown
+shownText b shown = rowText (b .device .columns ∷ b .device .rows ∷ b .now ∷ []) ++ tasksText 1 (b .tasks) shown
 
 -- "`ask board`"
 abbrev pub boardText : Board → List ℕ

@@ -92,10 +92,14 @@ fn put_tasks(out: &mut [u8], at: usize, tasks: [Task; 64], shown: [Task; 64]) ->
 // "a row `W H now`"; the place after it.
 fn put_device(out: &mut [u8], board: Board) -> usize
     requires { ⌜ 33 ≤ length (now out) ⌝ }
-    ensures { λ r. ⌜ Put (now (out .entry)) 0 (rowText (board .columns ∷ board .rows ∷ board .now ∷ [])) (now (out .exit)) r ⌝ }
+    ensures { λ r. ⌜ Put (now (out .entry)) 0 (rowText (board .device .columns ∷ board .device .rows ∷ board .now ∷ [])) (now (out .exit)) r ⌝ }
     ensures { λ r. ⌜ r ≤ 33 ⌝ }
 {
-    let words = [board.columns as u32, board.rows as u32, board.now];
+    let words = [
+        board.device.columns as u32,
+        board.device.rows as u32,
+        board.now,
+    ];
     text::put_words(out, 0, &words, 0, 3)
 }
 

@@ -13,6 +13,7 @@ use Rattle.lists.specs.Lists.{_∈_, keep}
 use Rattle.lists.proofs.Bools.{bool, is-true, is-false}
 use Rattle.lists.proofs.Members.{keep-yes, keep-no, map-in}
 use Rattle.lists.proofs.Order.{Sorted, sorted-keep, sorted-map}
+use Rattle.tasks.specs.declared.Device.{Device}
 use Rattle.tasks.specs.declared.Task.{Task}
 use Rattle.tasks.specs.Tasks.{finish, phaseAt, live, inPhase, stamped, freeSlot}
 use Rattle.tasks.proofs.Laws.{phase-waiting, phase-running}
@@ -69,14 +70,14 @@ live-aged i (k ∷ ks) = step (live-aged i ks) (bool (live k)) (decLe (finish k)
         rw (aged-stands i k t l, keep-yes live (stamped i k) (allAgedTo i ks) (stamped-live i k l), keep-yes live k ks t, keep-yes now? k (liveIn ks) (rw (lt-ltb i (finish k) l) tt), e)
 
 -- A SOUND BOARD STAYS SOUND UNDER THE CLOCK
-pub aged-sound : (W H now i : ℕ) (ks : List Task) → Sound W H now ks → now ≤ i → i ≤ 2000000000 → Sound W H i (allAgedTo i ks)
+pub aged-sound : (D : Device) (now i : ℕ) (ks : List Task) → Sound D now ks → now ≤ i → i ≤ 2000000000 → Sound D i (allAgedTo i ks)
 unfolding allAgedTo
-aged-sound W H now i ks s l h = record {
+aged-sound D now i ks s l h = record {
   columns = s .columns;
   rows = s .rows;
   clock = h;
   slots = length-map ks (agedTo i) ∙ s .slots;
-  tasks = λ k m t. let r = map-in (agedTo i) ks m in subst (SoundTask W H i) (sym (r .2)) (kept (r .0) (r .1) (subst (λ x. T (live x)) (r .2) t) (bool (live (r .0))) (decLe (finish (r .0)) i));
+  tasks = λ k m t. let r = map-in (agedTo i) ks m in subst (SoundTask D i) (sym (r .2)) (kept (r .0) (r .1) (subst (λ x. T (live x)) (r .2) t) (bool (live (r .0))) (decLe (finish (r .0)) i));
   free = λ k m t. let r = map-in (agedTo i) ks m in r .2 ∙ freed (r .0) (r .1) (subst (λ x. T (not (live x))) (r .2) t) (bool (live (r .0))) (decLe (finish (r .0)) i);
   together = subst (Sorted Together) (sym (live-aged i ks)) (sorted-map Together Together (stamped i) same (sorted-keep Together (λ k. ltb i (finish k)) (s .together)));
 }
@@ -84,14 +85,14 @@ aged-sound W H now i ks s l h = record {
     same : (k l : Task) → Together k l → Together (stamped i k) (stamped i l)
     same k l t = unfold stamped in record { ids = t .ids; apart = λ x. t .apart (record { column = x .column; tick = x .tick }) }
 
-    kept : (k : Task) → k ∈ ks → T (live (agedTo i k)) → T (live k) ⊎ T (not (live k)) → Dec (finish k ≤ i) → SoundTask W H i (agedTo i k)
+    kept : (k : Task) → k ∈ ks → T (live (agedTo i k)) → T (live k) ⊎ T (not (live k)) → Dec (finish k ≤ i) → SoundTask D i (agedTo i k)
     kept k m t (inr f) d = absurd (lib.Dec.T-not (live k) f (subst (λ x. T (live x)) (aged-free i k f) t))
     kept k m t (inl f) (yes d) = absurd (subst (λ x. T (live x)) (aged-ended i k f d) t)
     kept k m t (inl f) (no d) =
         let o = s .tasks k m f in
         let q : i < finish k = omega arith in
         let p = stamped-phase i k q in
-        subst (SoundTask W H i) (sym (aged-stands i k f q)) (unfold stamped in record {
+        subst (SoundTask D i) (sym (aged-stands i k f q)) (unfold stamped in record {
           id = o .id;
           w = o .w;
           h = o .h;
@@ -112,22 +113,22 @@ aged-sound W H now i ks s l h = record {
         absurd (lib.Dec.T-not (live (stamped i k)) (subst (λ x. T (not (live x))) (aged-stands i k f q) t) (stamped-live i k q))
 
 -- at now a sound live task is as it is stamped
-pub still : (W H now : ℕ) (k : Task) → SoundTask W H now k → stamped now k ≡ k
+pub still : (D : Device) (now : ℕ) (k : Task) → SoundTask D now k → stamped now k ≡ k
 unfolding stamped
-still W H now k o = step (o .phase)
+still D now k o = step (o .phase)
   where
     step : InPhase now k → inPhase (phaseAt now k) k ≡ k
     step (running e h) = ap (λ p. inPhase p k) (phase-running now k h (o .unfinished) ∙ sym e)
     step (waiting e h) = ap (λ p. inPhase p k) (phase-waiting now k h ∙ sym e)
 
 -- CLOCK TO NOW CHANGES NOTHING
-pub aged-now : (W H now : ℕ) (ks : List Task) → Sound W H now ks → allAgedTo now ks ≡ ks
+pub aged-now : (D : Device) (now : ℕ) (ks : List Task) → Sound D now ks → allAgedTo now ks ≡ ks
 unfolding allAgedTo
-aged-now W H now ks s = go ks (λ k m. each k m (bool (live k)))
+aged-now D now ks s = go ks (λ k m. each k m (bool (live k)))
   where
     each : (k : Task) → k ∈ ks → T (live k) ⊎ T (not (live k)) → agedTo now k ≡ k
     each k m (inr f) = aged-free now k f
-    each k m (inl f) = let o = s .tasks k m f in aged-stands now k f (o .unfinished) ∙ still W H now k o
+    each k m (inl f) = let o = s .tasks k m f in aged-stands now k f (o .unfinished) ∙ still D now k o
 
     go : (ls : List Task) → ((k : Task) → k ∈ ls → agedTo now k ≡ k) → map (agedTo now) ls ≡ ls
     go [] f = refl

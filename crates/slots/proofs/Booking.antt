@@ -9,6 +9,7 @@ use lib.ListN.{length, getD}
 use Rattle.lists.specs.Lists.{_∈_, indexOf}
 use Rattle.lists.proofs.Order.{put-in, sorted-put}
 use Rattle.lists.proofs.Append.{put-there, put-keeps, length-put}
+use Rattle.tasks.specs.declared.Device.{Device}
 use Rattle.tasks.specs.declared.Task.{Task}
 use Rattle.tasks.specs.Tasks.{live, freeSlot}
 use Rattle.tasks.proofs.Laws.{share-sym}
@@ -22,9 +23,9 @@ freeTest k = not (live k)
 turned : (k l : Task) → Together k l → Together l k
 turned k l t = record { ids = λ e. t .ids (sym e); apart = λ s. t .apart (share-sym l k s) }
 
-module _ (W H now : ℕ) (ks : List Task) (s : Sound W H now ks) where
+module _ (D : Device) (now : ℕ) (ks : List Task) (s : Sound D now ks) where
   -- BOOKING A SOUND TASK that is apart from every live one KEEPS THE BOARD SOUND
-  pub booked-sound : (k : Task) → SoundTask W H now k → ((l : Task) → l ∈ ks → T (live l) → Together k l) → Sound W H now (withBooked k ks)
+  pub booked-sound : (k : Task) → SoundTask D now k → ((l : Task) → l ∈ ks → T (live l) → Together k l) → Sound D now (withBooked k ks)
   unfolding withBooked
   booked-sound k o f = record {
     columns = s .columns;
@@ -36,8 +37,8 @@ module _ (W H now : ℕ) (ks : List Task) (s : Sound W H now ks) where
     together = sorted-put Together live freeTest k ks (λ l m t u. let r = f l m t in (r, turned k l r)) (s .together) (λ l t u v. T-not (live l) t u);
   }
     where
-      pick : (l : Task) → (l ≡ k) ⊎ (l ∈ ks) → T (live l) → SoundTask W H now l
-      pick l (inl e) t = subst (SoundTask W H now) (sym e) o
+      pick : (l : Task) → (l ≡ k) ⊎ (l ∈ ks) → T (live l) → SoundTask D now l
+      pick l (inl e) t = subst (SoundTask D now) (sym e) o
       pick l (inr m) t = s .tasks l m t
 
       none : (l : Task) → (l ≡ k) ⊎ (l ∈ ks) → T (not (live l)) → l ≡ freeSlot
@@ -45,7 +46,7 @@ module _ (W H now : ℕ) (ks : List Task) (s : Sound W H now ks) where
       none l (inr m) t = s .free l m t
 
   -- WITHDRAWAL KEEPS THE BOARD SOUND
-  pub withdrawn-sound : (n : ℕ) → Sound W H now (withoutNamed n ks)
+  pub withdrawn-sound : (n : ℕ) → Sound D now (withoutNamed n ks)
   unfolding withoutNamed
   withdrawn-sound n = record {
     columns = s .columns;
@@ -57,7 +58,7 @@ module _ (W H now : ℕ) (ks : List Task) (s : Sound W H now ks) where
     together = sorted-put Together live (named n) freeSlot ks (λ l m t u. absurd u) (s .together) (λ l t u v. v);
   }
     where
-      pick : (l : Task) → (l ≡ freeSlot) ⊎ (l ∈ ks) → T (live l) → SoundTask W H now l
+      pick : (l : Task) → (l ≡ freeSlot) ⊎ (l ∈ ks) → T (live l) → SoundTask D now l
       pick l (inl e) t = absurd (subst (λ x. T (live x)) e t)
       pick l (inr m) t = s .tasks l m t
 

@@ -1,10 +1,10 @@
 -- Soundness as a record of plain clauses, decided by the test. Assumes nothing.
 use Prim.Native.Nat.{ℕ, suc, _+_, _≤_, _<_}
-use mathlib.Core.Path.{_≡_, refl, sym}
+use mathlib.Core.Path.{_≡_, refl, sym, subst}
 use mathlib.Core.Bool.{Bool, true, false, not, cond, _&&_, _||_}
 use mathlib.Core.List.{List, [], _∷_}
 use native.Mathlib.Omega.{arith}
-use lib.Dec.{T, leb, eqb, leb→le, le→leb, ltb→lt, nleb→lt, eqb→eq, eqb-refl, not-T, T-not}
+use lib.Dec.{T, leb, ltb, eqb, leb→le, le→leb, ltb→lt, nltb→le, eqb→eq, eqb-refl, not-T, T-not}
 use lib.ListN.{length}
 use Rattle.lists.specs.Lists.{_∈_, all?, pairwise?}
 use Rattle.lists.proofs.Bools.{and-l, and-r, and-i, is-true, is-false}
@@ -12,25 +12,26 @@ use Rattle.lists.proofs.Members.{all-pass, pass-all}
 use Rattle.lists.proofs.Order.{Sorted, empty, next}
 use Rattle.tasks.specs.declared.Phase.{Phase}
 use Rattle.tasks.specs.declared.Phase.the-variants.{Ended, Waiting, Running}
+use Rattle.tasks.specs.declared.Device.{Device}
 use Rattle.tasks.specs.declared.Task.{Task}
-use Rattle.tasks.specs.Tasks.{finish, meets, livePhase, runningPhase, live, freeSlot, zeros}
-use Rattle.tasks.proofs.Laws.{Between, within-out, within-in, Share, meets-share, share-meets, share-sym, zeros-free}
-use Rattle.slots.specs.Slots.{liveIn, agree, taskSound, slotSound, together, sound}
+use Rattle.tasks.specs.Tasks.{finish, meets, livePhase, samePhase, phaseAt, live, freeSlot, zeros}
+use Rattle.tasks.proofs.Laws.{Between, within-out, within-in, Share, meets-share, share-meets, share-sym, zeros-free, phase-waiting, phase-running, is-waiting, is-running}
+use Rattle.slots.specs.Slots.{liveIn, taskSound, slotSound, together, sound}
 
 -- running exactly if its start is ≤ now, and otherwise waiting
 pub data InPhase (now : ℕ) (k : Task) : Type 0 where
   running : k .phase ≡ Running → k .start ≤ now → InPhase now k
   waiting : k .phase ≡ Waiting → now < k .start → InPhase now k
 
--- A SOUND LIVE TASK of a device of W columns and H rows at now
-pub record SoundTask (W H now : ℕ) (k : Task) : Type 0 where
+-- A SOUND LIVE TASK of a device at now
+pub record SoundTask (D : Device) (now : ℕ) (k : Task) : Type 0 where
   pub id : Between 1 4294967295 (k .id)
-  pub w : Between 1 W (k .w)
-  pub h : Between 1 H (k .h)
+  pub w : Between 1 (D .columns) (k .w)
+  pub h : Between 1 (D .rows) (k .h)
   pub e : Between 1 1000000 (k .e)
   pub d : k .d ≤ 2000000000
   pub from-one : 1 ≤ k .column
-  pub on-device : k .column + k .w ≤ suc W
+  pub on-device : k .column + k .w ≤ suc (D .columns)
   pub in-time : k .start + k .e ≤ k .d
   pub unfinished : now < k .start + k .e
   pub phase : InPhase now k
@@ -41,52 +42,51 @@ pub record Together (k l : Task) : Type 0 where
   pub apart : Share k l → ⊥
 
 -- A SOUND BOARD: document 01, Numbers, clause by clause
-pub record Sound (W H now : ℕ) (ks : List Task) : Type 0 where
-  pub columns : Between 1 256 W
-  pub rows : Between 1 1024 H
+pub record Sound (D : Device) (now : ℕ) (ks : List Task) : Type 0 where
+  pub columns : Between 1 256 (D .columns)
+  pub rows : Between 1 1024 (D .rows)
   pub clock : now ≤ 2000000000
   pub slots : length ks ≡ 64
-  pub tasks : (k : Task) → k ∈ ks → T (live k) → SoundTask W H now k
+  pub tasks : (k : Task) → k ∈ ks → T (live k) → SoundTask D now k
   pub free : (k : Task) → k ∈ ks → T (not (live k)) → k ≡ freeSlot
   pub together : Sorted Together (liveIn ks)
 
-phase-out : (now : ℕ) (k : Task) → T (live k) → T (agree (runningPhase (k .phase)) (leb (k .start) now)) → InPhase now k
-unfolding agree
+phase-out : (now : ℕ) (k : Task) → T (live k) → T (samePhase (k .phase) (phaseAt now k)) → InPhase now k
 phase-out now k l t = go (k .phase) refl l t
   where
-    go : (p : Phase) → k .phase ≡ p → T (livePhase p) → T (agree (runningPhase p) (leb (k .start) now)) → InPhase now k
+    go : (p : Phase) → k .phase ≡ p → T (livePhase p) → T (samePhase p (phaseAt now k)) → InPhase now k
     go Ended e m s = absurd m
-    go Waiting e m s = waiting e (nleb→lt (k .start) now s)
-    go Running e m s = running e (leb→le (k .start) now s)
+    go Waiting e m s = waiting e (ltb→lt now (k .start) (subst T (is-waiting now k) s))
+    go Running e m s = running e (nltb→le now (k .start) (and-l (not (ltb now (k .start))) (ltb now (finish k)) (subst T (is-running now k) s)))
 
-phase-in : (now : ℕ) (k : Task) → InPhase now k → T (agree (runningPhase (k .phase)) (leb (k .start) now))
-unfolding agree
-phase-in now k (running e h) = rw e (le→leb (k .start) now h)
-phase-in now k (waiting e h) = rw e (not-T (leb (k .start) now) (λ t. let z = leb→le (k .start) now t in omega arith))
+phase-in : (now : ℕ) (k : Task) → now < finish k → InPhase now k → T (samePhase (k .phase) (phaseAt now k))
+unfolding phaseAt
+phase-in now k f (running e h) = rw (e, phase-running now k h f) tt
+phase-in now k f (waiting e h) = rw (e, phase-waiting now k h) tt
 
 pub in-phase-live : (now : ℕ) (k : Task) → InPhase now k → T (live k)
 in-phase-live now k (running e h) = rw e tt
 in-phase-live now k (waiting e h) = rw e tt
 
-pub task-out : (W H now : ℕ) (k : Task) → T (live k) → T (taskSound W H now k) → SoundTask W H now k
+pub task-out : (D : Device) (now : ℕ) (k : Task) → T (live k) → T (taskSound D now k) → SoundTask D now k
 unfolding taskSound
-task-out W H now k l s = record {
+task-out D now k l s = record {
   id = within-out 1 4294967295 (k .id) (search (and-l, and-r) depth 12);
-  w = within-out 1 W (k .w) (search (and-l, and-r) depth 12);
-  h = within-out 1 H (k .h) (search (and-l, and-r) depth 12);
+  w = within-out 1 (D .columns) (k .w) (search (and-l, and-r) depth 12);
+  h = within-out 1 (D .rows) (k .h) (search (and-l, and-r) depth 12);
   e = within-out 1 1000000 (k .e) (search (and-l, and-r) depth 12);
   d = leb→le (k .d) 2000000000 (search (and-l, and-r) depth 12);
   from-one = leb→le 1 (k .column) (search (and-l, and-r) depth 12);
-  on-device = leb→le (k .column + k .w) (suc W) (search (and-l, and-r) depth 12);
+  on-device = leb→le (k .column + k .w) (suc (D .columns)) (search (and-l, and-r) depth 12);
   in-time = leb→le (finish k) (k .d) (search (and-l, and-r) depth 12);
   unfinished = ltb→lt now (finish k) (search (and-l, and-r) depth 12);
   phase = phase-out now k l (search (and-l, and-r) depth 12);
 }
 
-pub task-in : (W H now : ℕ) (k : Task) → SoundTask W H now k → T (taskSound W H now k)
+pub task-in : (D : Device) (now : ℕ) (k : Task) → SoundTask D now k → T (taskSound D now k)
 unfolding taskSound
-task-in W H now k s =
-    let p = phase-in now k (s .phase) in
+task-in D now k s =
+    let p = phase-in now k (s .unfinished) (s .phase) in
     search (and-i, within-in, le→leb, s .id, s .w, s .h, s .e, p) depth 14
 
 pub together-out : (k l : Task) → T (together k l) → Together k l
@@ -125,45 +125,37 @@ ended Waiting t = absurd t
 ended Running t = absurd t
 
 -- THE TEST DECIDES SOUNDNESS
-pub sound-out : (W H now : ℕ) (ks : List Task) → T (sound W H now ks) → Sound W H now ks
+pub sound-out : (D : Device) (now : ℕ) (ks : List Task) → T (sound D now ks) → Sound D now ks
 unfolding sound slotSound
-sound-out W H now ks s = record {
-  columns = within-out 1 256 W (search (and-l, and-r) depth 12);
-  rows = within-out 1 1024 H (search (and-l, and-r) depth 12);
+sound-out D now ks s = record {
+  columns = within-out 1 256 (D .columns) (search (and-l, and-r) depth 12);
+  rows = within-out 1 1024 (D .rows) (search (and-l, and-r) depth 12);
   clock = leb→le now 2000000000 (search (and-l, and-r) depth 12);
   slots = eqb→eq (length ks) 64 (search (and-l, and-r) depth 12);
-  tasks = λ k m l. task-out W H now k l (rw (is-true (live k) l) at (each k m));
+  tasks = λ k m l. task-out D now k l (rw (is-true (live k) l) at (each k m));
   free = λ k m l. zeros-free k (rw (is-false (live k) l) at (each k m)) (ended (k .phase) l);
   together = pairs-out (liveIn ks) (search (and-l, and-r) depth 12);
 }
   where
-    each : (k : Task) → k ∈ ks → T (slotSound W H now k)
-    each k m = all-pass (slotSound W H now) ks (search (and-l, and-r) depth 12) m
+    each : (k : Task) → k ∈ ks → T (slotSound D now k)
+    each k m = all-pass (slotSound D now) ks (search (and-l, and-r) depth 12) m
 
-pub sound-in : (W H now : ℕ) (ks : List Task) → Sound W H now ks → T (sound W H now ks)
+pub sound-in : (D : Device) (now : ℕ) (ks : List Task) → Sound D now ks → T (sound D now ks)
 unfolding sound slotSound zeros
-sound-in W H now ks s =
+sound-in D now ks s =
     let slots : T (eqb (length ks) 64) = rw (s .slots) tt in
-    let every = pass-all (slotSound W H now) ks each in
+    let every = pass-all (slotSound D now) ks each in
     let pairs = pairs-in (s .together) in
     search (and-i, within-in, le→leb, s .columns, s .rows) depth 12
   where
-    step : (k : Task) → k ∈ ks → (b : Bool) → live k ≡ b → T (cond b (taskSound W H now k) (zeros k))
-    step k m true e = task-in W H now k (s .tasks k m (rw e tt))
+    step : (k : Task) → k ∈ ks → (b : Bool) → live k ≡ b → T (cond b (taskSound D now k) (zeros k))
+    step k m true e = task-in D now k (s .tasks k m (rw e tt))
     step k m false e = rw (s .free k m (rw e tt)) tt
 
-    each : (k : Task) → k ∈ ks → T (slotSound W H now k)
+    each : (k : Task) → k ∈ ks → T (slotSound D now k)
     each k m = step k m (live k) refl
 
--- two tests that agree are both true or both false
-pub agree-either : (a b : Bool) → agree a b ≡ ((a && b) || (not a && not b))
-unfolding agree
-agree-either true true = refl
-agree-either true false = refl
-agree-either false true = refl
-agree-either false false = refl
-
 -- every slot of a sound board by itself is sound
-pub each-sound : (W H now : ℕ) (ks : List Task) → T (sound W H now ks) → T (all? (slotSound W H now) ks)
+pub each-sound : (D : Device) (now : ℕ) (ks : List Task) → T (sound D now ks) → T (all? (slotSound D now) ks)
 unfolding sound
-each-sound W H now ks s = search (and-l, and-r) depth 9
+each-sound D now ks s = search (and-l, and-r) depth 9

@@ -5,40 +5,36 @@ use mathlib.Core.List.{List, map}
 use lib.Dec.{leb, ltb, eqb}
 use lib.ListN.{length}
 use Rattle.lists.specs.Lists.{keep, some?, all?, pairwise?, putFirst}
+use Rattle.tasks.specs.declared.Device.{Device}
 use Rattle.tasks.specs.declared.Task.{Task}
 use Rattle.tasks.specs.Numbers.{mostTasks, lastInstant, largestId, within, deviceFits, sizeFits, timeFits}
-use Rattle.tasks.specs.Tasks.{finish, meets, live, runningPhase, stamped, freeSlot, zeros}
+use Rattle.tasks.specs.Tasks.{finish, meets, live, waitingPhase, samePhase, phaseAt, stamped, freeSlot, zeros}
 
 -- the live tasks, by slot
 abbrev pub liveIn : List Task → List Task
 liveIn ks = keep live ks
 
--- two tests say the same
-unfoldable pub agree : Bool → Bool → Bool
-agree true b = b
-agree false b = not b
-
 -- "every live task is within the numbers above, ends by its deadline and ends after now;
 -- a task is running exactly if its start is ≤ now and otherwise waiting"
-unfoldable pub taskSound : ℕ → ℕ → ℕ → Task → Bool
-taskSound W H now k =
-    within 1 largestId (k .id) && sizeFits W H (k .w) (k .h) && timeFits (k .e) (k .d)
-    && leb 1 (k .column) && leb (k .column + k .w) (suc W)
+unfoldable pub taskSound : Device → ℕ → Task → Bool
+taskSound D now k =
+    within 1 largestId (k .id) && sizeFits D (k .w) (k .h) && timeFits (k .e) (k .d)
+    && leb 1 (k .column) && leb (k .column + k .w) (suc (D .columns))
     && leb (finish k) (k .d) && ltb now (finish k)
-    && agree (runningPhase (k .phase)) (leb (k .start) now)
+    && samePhase (k .phase) (phaseAt now k)
 
 -- "A free slot holds zeros and the phase ended; anything else in it makes the board unsound"
-unfoldable pub slotSound : ℕ → ℕ → ℕ → Task → Bool
-slotSound W H now k = cond (live k) (taskSound W H now k) (zeros k)
+unfoldable pub slotSound : Device → ℕ → Task → Bool
+slotSound D now k = cond (live k) (taskSound D now k) (zeros k)
 
 -- "ids differ", and "no two share a column at a tick (Definition 1)"
 unfoldable pub together : Task → Task → Bool
 together k l = not (eqb (k .id) (l .id)) && not (meets k l)
 
 -- "A board is sound when W, H and now are in range", its 64 slots are and so is every two of its live tasks
-unfoldable pub sound : ℕ → ℕ → ℕ → List Task → Bool
-sound W H now ks =
-    deviceFits W H && leb now lastInstant && eqb (length ks) mostTasks && all? (slotSound W H now) ks
+unfoldable pub sound : Device → ℕ → List Task → Bool
+sound D now ks =
+    deviceFits D && leb now lastInstant && eqb (length ks) mostTasks && all? (slotSound D now) ks
     && pairwise? together (liveIn ks)
 
 -- a live task of that id
@@ -65,6 +61,6 @@ allAgedTo i ks = map (agedTo i) ks
 unfoldable pub withoutNamed : ℕ → List Task → List Task
 withoutNamed n ks = putFirst (named n) freeSlot ks
 
--- the live task of that id is running
-unfoldable pub runsNamed : ℕ → List Task → Bool
-runsNamed n ks = some? (λ k. named n k && runningPhase (k .phase)) ks
+-- the live task of that id has begun: it is live and not waiting
+unfoldable pub begunNamed : ℕ → List Task → Bool
+begunNamed n ks = some? (λ k. named n k && not (waitingPhase (k .phase))) ks

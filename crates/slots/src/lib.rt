@@ -4,41 +4,33 @@ ghost use mathlib.Core.Bool.{cond};
 ghost use Prim.Native.Nat.{_≤_};
 ghost use Rattle.lists.specs.Lists.{indexOf};
 ghost use Rattle.tasks.specs.declared.Task.{Task};
-ghost use Rattle.tasks.specs.Numbers.{deviceFits};
 ghost use Rattle.slots.specs.Slots.{taskSound, slotSound, agedTo, allAgedTo, named};
+use tasks::Device;
 use tasks::Task;
 
-// W and H are in range.
-pub fn device_fits(columns: u16, rows: u16) -> bool
-    ensures { λ r. ⌜ r ≡ deviceFits columns rows ⌝ }
+// A live task within the numbers, done by its deadline and not before now, in the phase that it has at now.
+fn task_sound(on: Device, now: u32, k: Task) -> bool
+    ensures { λ r. ⌜ r ≡ taskSound on now k ⌝ }
 {
-    ((1 <= columns) & (columns <= 256)) & ((1 <= rows) & (rows <= 1024))
-}
-
-// A live task within the numbers, done by its deadline and not before now, in the phase that its start says.
-fn task_sound(columns: u16, rows: u16, now: u32, k: Task) -> bool
-    ensures { λ r. ⌜ r ≡ taskSound columns rows now k ⌝ }
-{
-    let size = tasks::size_fits(columns, rows, k.w, k.h);
+    let size = tasks::size_fits(on, k.w, k.h);
     let time = tasks::time_fits(k.e, k.d);
-    let running = tasks::is_running(k);
-    let begun = k.start <= now;
-    ((1 <= k.id) & (k.id <= 4_294_967_295))
+    let phase = tasks::in_phase(k, now);
+    ((1 <= k.id) & (k.id <= tasks::LARGEST_ID))
         & size
         & time
         & (1 <= k.column)
-        & (k.column as u32 + k.w as u32 <= columns as u32 + 1)
+        & (k.column as u32 + k.w as u32 <= on.columns as u32 + 1)
         & (k.start as u64 + k.e as u64 <= k.d as u64)
         & ((now as u64) < k.start as u64 + k.e as u64)
-        & ((running & begun) | (!running & !begun))
+        & phase
 }
 
 // A live task that is sound, or a free slot of zeros.
-pub fn slot_sound(columns: u16, rows: u16, now: u32, k: Task) -> bool
-    ensures { λ r. ⌜ r ≡ slotSound columns rows now k ⌝ }
+pub fn slot_sound(on: Device, now: u32, k: Task) -> bool
+    ensures { λ r. ⌜ r ≡ slotSound on now k ⌝ }
 {
     if tasks::is_live(k) {
-        task_sound(columns, rows, now, k)
+        task_sound(on, now, k)
     } else {
         tasks::is_zeros(k)
     }

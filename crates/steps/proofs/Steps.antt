@@ -4,21 +4,23 @@ use mathlib.Core.Path.{_≡_, refl, sym, ap, _∙_, subst}
 use mathlib.Core.Bool.{Bool, true, false, not, cond, _&&_, _||_}
 use mathlib.Core.List.{List, [], _∷_, map}
 use native.Mathlib.Omega.{arith}
-use borrow.Author.Tests.{lt-ltb, le-ltb, ltb-false, eqb-true}
-use lib.Dec.{T, ltb, eqb, eqb→eq, not-T}
+use native.Mathlib.Decide.{decLt}
+use borrow.Author.Tests.{lt-ltb, le-ltb, le-leb, lt-leb, ltb-true, eqb-true}
+use lib.Dec.{T, leb, ltb, eqb, nltb→le, eqb→eq, not-T}
 use lib.ListN.{length, getD, set, replicate, length-set, length-replicate, getD-replicate}
 use Rattle.lists.specs.Lists.{some?, indexOf, range}
 use Rattle.lists.proofs.Bools.{is-true, is-false, and-i, and-l, and-r}
 use Rattle.lists.proofs.Append.{index-test, index-is, index-passes}
-use Rattle.lists.proofs.Members.{getD-in, pass-none, range-in}
+use Rattle.lists.proofs.Members.{getD-in, pass-none, pass-some, range-in, in-range}
 use Rattle.lists.proofs.Order.{sorted-at}
+use Rattle.tasks.specs.declared.Device.{Device}
 use Rattle.tasks.specs.declared.Task.{Task}
 use Rattle.tasks.specs.declared.Submission.{Submission}
-use Rattle.tasks.specs.Numbers.{deviceFits}
-use Rattle.tasks.specs.Tasks.{live, runningPhase, phaseAt, stamped, freeSlot, booked}
+use Rattle.tasks.specs.Numbers.{device, deviceFits}
+use Rattle.tasks.specs.Tasks.{live, waitingPhase, phaseAt, stamped, freeSlot, booked}
 use Rattle.words.specs.Words.{bit, Least}
 use Rattle.words.proofs.Digits.{bit-of-zero}
-use Rattle.slots.specs.Slots.{sound, named, known, agedTo, allAgedTo}
+use Rattle.slots.specs.Slots.{sound, named, known, begunNamed, agedTo, allAgedTo}
 use Rattle.slots.proofs.Soundness.{InPhase, running, waiting, SoundTask, Together, Sound, sound-out, sound-in}
 use Rattle.slots.proofs.Ageing.{aged-free-slot, aged-length, aged-stands, stamped-live, aged-sound, aged-now, aged-twice}
 use Rattle.live.specs.Live.{startAt, idAt, slotAt, Falling, After}
@@ -30,29 +32,30 @@ use Rattle.board.specs.declared.Board.{Board}
 use Rattle.board.specs.declared.Answer.{Answer}
 use Rattle.board.specs.declared.Answer.the-variants.{Rejected, Placed, Refused}
 use Rattle.board.specs.Answers.{bare, told}
-use Rattle.board.specs.Refusals.{refusal, soundBoard, beyond, refusedCreate}
+use Rattle.refusals.specs.Refusals.{instantTests, withdrawTests}
+use Rattle.board.specs.Refusals.{refusal, soundBoard, refusedCreate}
 use Rattle.board.specs.Calls.{orRefused, freshBoard, zeroBoard, created, submitted, boardAt, withdrawn}
-use Rattle.board.specs.Untested.{boardOf, clockedUntested, withdrawnUntested, withdrawnAt}
-use Rattle.board.proofs.Refusals.{refused-by, passed-over}
+use Rattle.board.specs.Standing.{boardOf}
+use Rattle.refusals.proofs.First.{refused-by, passed-over, none-holds}
 use Rattle.board.proofs.Kept.{SoundBoard, submitted-sound, clocked-done, withdrawn-stays-sound, created-sound, zero-unsound}
-use Rattle.board.proofs.Untested.{clocked-sound, clocked-unsound, withdrawn-sound, withdrawn-unsound}
+use Rattle.board.proofs.Tested.{clocked-unsound, clocked-refused, slot-begun, withdrawn-unsound, withdrawn-refused, withdrawn-known, withdrawn-freed}
 use Rattle.board.proofs.Submit.{submit-unsound}
 use Rattle.board.proofs.Placed.{BooksAt, placed-books, unplaced-same}
 use Rattle.events.specs.declared.Event.the-variants.{NewBoard, Submit, Clock, Withdraw}
-use Rattle.steps.specs.declared.Device.{Device}
+use Rattle.steps.specs.declared.Brief.{Brief}
 use Rattle.steps.specs.declared.Change.{Change}
 use Rattle.steps.specs.declared.Change.the-variants.{Nothing, Booked, Freed, Cleared}
 use Rattle.steps.specs.declared.Done.{Done}
-use Rattle.steps.specs.Outcomes.{Outcome, outcome}
-use Rattle.steps.specs.Standing.{Keeps, Follows, asBooked, changed}
+use Rattle.steps.specs.Outcomes.{withBoard, Outcome, outcome}
+use Rattle.steps.specs.Standing.{stateOf, Keeps, Follows, asBooked, changed}
 
 -- a number without a place
-abbrev pub numbered : ℕ → Device → Change → Done
-numbered n d x = record { number = n; column = 0; start = 0; finish = 0; device = d; change = x }
+abbrev pub numbered : ℕ → Brief → Change → Done
+numbered n d x = record { number = n; column = 0; start = 0; finish = 0; brief = d; change = x }
 
--- a sound device with other tasks
-abbrev pub withLive : Device → ℕ → ℕ → ℕ → Device
-withLive d clock count used = record { clock = clock; columns = d .columns; rows = d .rows; count = count; used = used; sound = true }
+-- a sound board with other tasks
+abbrev pub withLive : Brief → ℕ → ℕ → ℕ → Brief
+withLive d clock count used = record { clock = clock; device = d .device; count = count; used = used; sound = true }
 
 -- a record into a slot, before or after the slots are brought up to the clock
 aged-set : (i : ℕ) (ks : List Task) (n : ℕ) (k : Task) → allAgedTo i (set ks n k) ≡ set (allAgedTo i ks) n (agedTo i k)
@@ -73,41 +76,41 @@ unfolding told
 told-refused n = refl
 
 -- a new board, and the board of zeros
-pub created-done : (W H : ℕ) → deviceFits W H ≡ true → created W H ≡ record { number = 0; board = freshBoard W H }
+pub created-done : (W H : ℕ) → deviceFits (device W H) ≡ true → created W H ≡ record { number = 0; board = freshBoard (device W H) }
 unfolding created refusedCreate orRefused
-created-done W H e = rw (passed-over 2 (not (deviceFits W H)) [] (ap not e)) (unfold refusal in refl)
+created-done W H e = rw (passed-over 2 (not (deviceFits (device W H))) [] (ap not e)) (unfold refusal in refl)
 
-pub created-not : (W H : ℕ) → deviceFits W H ≡ false → created W H ≡ record { number = 2; board = zeroBoard }
+pub created-not : (W H : ℕ) → deviceFits (device W H) ≡ false → created W H ≡ record { number = 2; board = zeroBoard }
 unfolding created refusedCreate orRefused
-created-not W H e = rw (refused-by 2 (not (deviceFits W H)) [] (ap not e))
+created-not W H e = rw (refused-by 2 (not (deviceFits (device W H))) [] (ap not e))
 
-module _ (d : Device) (ks : List Task) {rows masks : List ℕ} (k : Keeps d ks rows masks) where
+module _ (d : Brief) (ks : List Task) {rows masks : List ℕ} (k : Keeps d ks rows masks) where
   abbrev b : Board
-  b = boardOf ks (d .clock) (d .columns) (d .rows)
+  b = boardOf ks (d .clock) (d .device)
 
   -- NOTHING BUT A NUMBER
-  pub step-same : (o : Outcome) (n : ℕ) → o ≡ record { answer = bare n; board = boardOf ks (d .clock) (d .columns) (d .rows) } → Follows d ks o (numbered n d Nothing) rows masks
+  pub step-same : (o : Outcome) (n : ℕ) → o ≡ record { answer = bare n; state = stateOf ks d } → Follows d ks o (numbered n d Nothing) rows masks
   unfolding changed
   step-same o n e =
       subst (λ x. Follows d ks x (numbered n d Nothing) rows masks) (sym e)
-      (record { number = refl; column = refl; start = refl; finish = refl; clock = refl; columns = refl; height = refl; keeps = k; inside = omega arith; records = λ tasks z q. q })
+      (record { number = refl; column = refl; start = refl; finish = refl; clock = refl; device = refl; keeps = k; inside = omega arith; records = λ tasks z q. q })
 
   -- 1
   module _ (u : d .sound ≡ false) where
     unsound : soundBoard b ≡ false
     unsound = k .good ∙ u
 
-    pub unsound-submit : (n : ℕ) (a : Submission) → outcome b (Submit n a) ≡ record { answer = bare 1; board = b }
+    pub unsound-submit : (n : ℕ) (a : Submission) → outcome (stateOf ks d) (Submit n a) ≡ record { answer = bare 1; state = stateOf ks d }
     unfolding outcome told
-    unsound-submit n a = ap (λ x. record { answer = told (x .answer); board = x .board }) (submit-unsound b n a unsound)
+    unsound-submit n a = ap (λ x. record { answer = told (x .answer); state = withBoard (stateOf ks d) (x .board) }) (submit-unsound b n a unsound)
 
-    pub unsound-clock : (i : ℕ) → outcome b (Clock i) ≡ record { answer = bare 1; board = b }
+    pub unsound-clock : (i : ℕ) → outcome (stateOf ks d) (Clock i) ≡ record { answer = bare 1; state = stateOf ks d }
     unfolding outcome
-    unsound-clock i = ap (λ x. record { answer = bare (x .number); board = x .board }) (clocked-unsound b i unsound)
+    unsound-clock i = ap (λ x. record { answer = bare (x .number); state = withBoard (stateOf ks d) (x .board) }) (clocked-unsound b i unsound)
 
-    pub unsound-withdraw : (n : ℕ) → outcome b (Withdraw n) ≡ record { answer = bare 1; board = b }
+    pub unsound-withdraw : (n : ℕ) → outcome (stateOf ks d) (Withdraw n) ≡ record { answer = bare 1; state = stateOf ks d }
     unfolding outcome
-    unsound-withdraw n = ap (λ x. record { answer = bare (x .number); board = x .board }) (withdrawn-unsound b n unsound)
+    unsound-withdraw n = ap (λ x. record { answer = bare (x .number); state = withBoard (stateOf ks d) (x .board) }) (withdrawn-unsound b n unsound)
 
   -- a board that is sound
   module _ (u : d .sound ≡ true) where
@@ -115,7 +118,7 @@ module _ (d : Device) (ks : List Task) {rows masks : List ℕ} (k : Keeps d ks r
     good = k .good ∙ u
 
     pub stands : SoundBoard b
-    stands = sound-out (d .columns) (d .rows) (d .clock) ks (rw good tt)
+    stands = sound-out (d .device) (d .clock) ks (rw good tt)
 
     abbrev table : Stands 64 ks (d .count) rows
     table = k .kept u .stands
@@ -125,32 +128,32 @@ module _ (d : Device) (ks : List Task) {rows masks : List ℕ} (k : Keeps d ks r
     booked-as tasks w = w ∙ ap (λ x. cond x (allAgedTo (d .clock) tasks) tasks) u
 
     -- 11, 12
-    pub clock-back : (i : ℕ) → i < d .clock → outcome b (Clock i) ≡ record { answer = bare 11; board = b }
-    unfolding outcome clockedUntested orRefused
-    clock-back i h = ap (λ x. record { answer = bare (x .number); board = x .board }) (clocked-sound b i good ∙ rw (refused-by 11 (ltb i (d .clock)) (beyond i ∷ []) (lt-ltb i (d .clock) h)))
+    pub clock-refused : (i : ℕ) {r : ℕ} → r ≡ refusal (instantTests (d .clock) i) → 0 < r → outcome (stateOf ks d) (Clock i) ≡ record { answer = bare r; state = stateOf ks d }
+    unfolding outcome
+    clock-refused i e h = ap (λ x. record { answer = bare (x .number); state = withBoard (stateOf ks d) (x .board) }) (clocked-refused b i good e h)
 
-    pub clock-far : (i : ℕ) → d .clock ≤ i → 2000000000 < i → outcome b (Clock i) ≡ record { answer = bare 12; board = b }
-    unfolding outcome clockedUntested orRefused
-    clock-far i h q =
-        ap (λ x. record { answer = bare (x .number); board = x .board })
-        (clocked-sound b i good ∙ rw (passed-over 11 (ltb i (d .clock)) (beyond i ∷ []) (le-ltb i (d .clock) h), refused-by 12 (ltb 2000000000 i) [] (lt-ltb 2000000000 i q)))
+    -- an instant that is not refused
+    pub clock-allowed : (i : ℕ) {r : ℕ} → r ≡ refusal (instantTests (d .clock) i) → r ≡ 0 → (d .clock ≤ i) × (i ≤ 2000000000)
+    clock-allowed i e z =
+        let r11 = none-holds 11 _ _ (omega arith) (sym e ∙ z) in
+        let r12 = none-holds 12 _ _ (omega arith) (r11 .1) in
+        (nltb→le i (d .clock) (r11 .0), nltb→le 2000000000 i (r12 .0))
 
     -- THE CLOCK
     pub step-clock : (i : ℕ) → d .clock ≤ i → i ≤ 2000000000 → {count : ℕ} → After rows (d .count) i count → (used : ℕ)
         → ((j : ℕ) → j < 64 → bit used j ≡ (bit (d .used) j && not (some? (λ (p : ℕ). eqb j (slotAt rows p)) (range count (d .count - count)))))
-        → Follows d ks (outcome b (Clock i)) (numbered 0 (withLive d i count used) Nothing) rows masks
+        → Follows d ks (outcome (stateOf ks d) (Clock i)) (numbered 0 (withLive d i count used) Nothing) rows masks
     unfolding outcome boardAt changed
     step-clock i h q {count} a used f =
         subst (λ x. Follows d ks x (numbered 0 (withLive d i count used) Nothing) rows masks)
-        (sym (ap (λ x. record { answer = bare (x .number); board = x .board }) (clocked-done b i stands h q)))
+        (sym (ap (λ x. record { answer = bare (x .number); state = withBoard (stateOf ks d) (x .board) }) (clocked-done b i stands h q)))
         (record {
           number = refl;
           column = refl;
           start = refl;
           finish = refl;
           clock = refl;
-          columns = refl;
-          height = refl;
+          device = refl;
           keeps = record {
             slots = aged-length i ks ∙ k .slots;
             size = k .size;
@@ -167,24 +170,24 @@ module _ (d : Device) (ks : List Task) {rows masks : List ℕ} (k : Keeps d ks r
         falls : Falling (d .count) rows
         falls = k .kept u .falling
 
-        after : sound (d .columns) (d .rows) i (allAgedTo i ks) ≡ true
-        after = is-true (sound (d .columns) (d .rows) i (allAgedTo i ks)) (sound-in (d .columns) (d .rows) i (allAgedTo i ks) (aged-sound (d .columns) (d .rows) (d .clock) i ks stands h q))
+        after : sound (d .device) i (allAgedTo i ks) ≡ true
+        after = is-true (sound (d .device) i (allAgedTo i ks)) (sound-in (d .device) i (allAgedTo i ks) (aged-sound (d .device) (d .clock) i ks stands h q))
 
-    -- 13
-    pub withdraw-none : (n p : ℕ) → Least (λ (i : ℕ). eqb (idAt rows i) n) 0 (d .count) p → p ≡ d .count → outcome b (Withdraw n) ≡ record { answer = bare 13; board = b }
-    unfolding outcome withdrawnUntested withdrawnAt known
-    withdraw-none n p l e =
-        ap (λ x. record { answer = bare (x .number); board = x .board }) (withdrawn-sound b n good ∙ rw (le-ltb (indexOf (named n) ks) 64 nowhere))
+    -- a live task has the id exactly if the table has it
+    known-at : (n p : ℕ) → Least (λ (i : ℕ). eqb (idAt rows i) n) 0 (d .count) p → known n ks ≡ ltb p (d .count)
+    known-at n p l = sym (known-same (d .device) (d .clock) ks (d .count) rows table good n) ∙ go (decLt p (d .count))
       where
-        none : some? (λ (i : ℕ). eqb (idAt rows i) n) (range 0 (d .count)) ≡ false
-        none =
-            is-false (some? (λ (i : ℕ). eqb (idAt rows i) n) (range 0 (d .count)))
-            (pass-none (λ (i : ℕ). eqb (idAt rows i) n) (range 0 (d .count)) (λ i m. let w = range-in 0 (d .count) m in rw (l .before i (omega arith) (omega (arith, w .high))) tt))
+        has : ℕ → Bool
+        has i = eqb (idAt rows i) n
 
-        nowhere : 64 ≤ indexOf (named n) ks
-        nowhere =
-            let z = ltb-false (indexOf (named n) ks) (length ks) (sym (index-test (named n) ks) ∙ sym (known-same (d .columns) (d .rows) (d .clock) ks (d .count) rows table good n) ∙ none) in
-            omega (arith, k .slots)
+        go : Dec (p < d .count) → some? has (range 0 (d .count)) ≡ ltb p (d .count)
+        go (yes h) =
+            is-true (some? has (range 0 (d .count))) (pass-some has (range 0 (d .count)) (in-range 0 (d .count) p (omega arith) (omega arith)) (rw (l .here h) tt))
+            ∙ sym (lt-ltb p (d .count) h)
+        go (no h) =
+            is-false (some? has (range 0 (d .count)))
+            (pass-none has (range 0 (d .count)) (λ i m. let w = range-in 0 (d .count) m in rw (l .before i (omega arith) (omega (arith, w .high))) tt))
+            ∙ sym (le-ltb p (d .count) (omega arith))
 
     module _ (n p : ℕ) (l : Least (λ (i : ℕ). eqb (idAt rows i) n) 0 (d .count) p) (h : p < d .count) where
       abbrev slot : ℕ
@@ -200,7 +203,7 @@ module _ (d : Device) (ks : List Task) {rows masks : List ℕ} (k : Keeps d ks r
       there = table .each p h .there
 
       is-named : taskThere .id ≡ n
-      is-named = sym (id-at (d .columns) (d .rows) (d .clock) ks (d .count) rows table good p h) ∙ eqb-true (idAt rows p) n (l .here h)
+      is-named = sym (id-at (d .device) (d .clock) ks (d .count) rows table good p h) ∙ eqb-true (idAt rows p) n (l .here h)
 
       -- the only slot of that id, and so the first
       pub slot-is : slot ≡ indexOf (named n) ks
@@ -210,55 +213,42 @@ module _ (d : Device) (ks : List Task) {rows masks : List ℕ} (k : Keeps d ks r
           (λ q. is-true (named n taskThere) (and-i (live taskThere) (eqb (taskThere .id) n) there (rw (eq-named) tt)))
         where
           eq-named : eqb (taskThere .id) n ≡ true
-          eq-named = ap (λ x. eqb x n) (sym (id-at (d .columns) (d .rows) (d .clock) ks (d .count) rows table good p h)) ∙ l .here h
+          eq-named = ap (λ x. eqb x n) (sym (id-at (d .device) (d .clock) ks (d .count) rows table good p h)) ∙ l .here h
 
           other : (j : ℕ) → j < slot → T (live (getD ks j freeSlot) && eqb (getD ks j freeSlot .id) n) → ⊥
           other j q t =
               sorted-at Together live ks freeSlot (stands .together) j slot q (omega (arith, k .slots, inside)) (and-l (live (getD ks j freeSlot)) (eqb (getD ks j freeSlot .id) n) t) there .ids
               (eqb→eq (getD ks j freeSlot .id) n (and-r (live (getD ks j freeSlot)) (eqb (getD ks j freeSlot .id) n) t) ∙ sym is-named)
 
-      task : SoundTask (d .columns) (d .rows) (d .clock) taskThere
+      task : SoundTask (d .device) (d .clock) taskThere
       task = stands .tasks taskThere (getD-in ks slot freeSlot (omega (arith, k .slots, inside))) there
 
       begins : startAt rows p ≡ taskThere .start
-      begins = start-at (d .columns) (d .rows) (d .clock) ks (d .count) rows table good p h
+      begins = start-at (d .device) (d .clock) ks (d .count) rows table good p h
 
-      -- it runs exactly if its start has come
-      run-begun : (x : Task) → InPhase (d .clock) x → x .start ≤ d .clock → runningPhase (x .phase) ≡ true
-      run-begun x (running q w) z = rw q
-      run-begun x (waiting q w) z = absurd (omega arith)
+      -- it has begun exactly if its start has come
+      has-begun : (x : Task) → InPhase (d .clock) x → not (waitingPhase (x .phase)) ≡ leb (x .start) (d .clock)
+      has-begun x (running q w) = rw q (sym (le-leb (x .start) (d .clock) w))
+      has-begun x (waiting q w) = rw q (sym (lt-leb (x .start) (d .clock) w))
 
-      run-not : (x : Task) → InPhase (d .clock) x → d .clock < x .start → runningPhase (x .phase) ≡ false
-      run-not x (running q w) z = absurd (omega arith)
-      run-not x (waiting q w) z = rw q
-
-      -- 14
-      pub withdraw-running : startAt rows p ≤ d .clock → outcome b (Withdraw n) ≡ record { answer = bare 14; board = b }
-      unfolding outcome withdrawnUntested withdrawnAt
-      withdraw-running q =
-          ap (λ x. record { answer = bare (x .number); board = x .board })
-          (withdrawn-sound b n good ∙ rw (← slot-is, lt-ltb slot 64 inside, run-begun taskThere (task .phase) (omega (arith, begins))))
-
-      withdrawn-there : d .clock < startAt rows p → withdrawn b n ≡ record { number = 0; board = boardOf (set ks slot freeSlot) (d .clock) (d .columns) (d .rows) }
-      unfolding withdrawnUntested withdrawnAt
-      withdrawn-there q = withdrawn-sound b n good ∙ rw (← slot-is, lt-ltb slot 64 inside, run-not taskThere (task .phase) (omega (arith, begins)))
+      begun-at : begunNamed n ks ≡ leb (startAt rows p) (d .clock)
+      begun-at = slot-begun b n slot good slot-is inside ∙ has-begun taskThere (task .phase) ∙ ap (λ x. leb x (d .clock)) (sym begins)
 
       -- WITHDRAWN
-      pub step-withdraw : d .clock < startAt rows p → {next words : List ℕ} → Closed 6 (d .count) p rows next → Closed 4 (d .count) p masks words → (used : ℕ)
+      pub step-withdraw : {r : ℕ} → r ≡ refusal (withdrawTests (ltb p (d .count)) (leb (startAt rows p) (d .clock))) → r ≡ 0 → {next words : List ℕ} → Closed 6 (d .count) p rows next → Closed 4 (d .count) p masks words → (used : ℕ)
           → ((j : ℕ) → j < 64 → bit used j ≡ (bit (d .used) j && not (eqb j slot)))
-          → Follows d ks (outcome b (Withdraw n)) (numbered 0 (withLive d (d .clock) (d .count - 1) used) (Freed slot)) next words
+          → Follows d ks (outcome (stateOf ks d) (Withdraw n)) (numbered 0 (withLive d (d .clock) (d .count - 1) used) (Freed slot)) next words
       unfolding outcome changed
-      step-withdraw q {next} {words} c w used f =
+      step-withdraw {r} e q {next} {words} c w used f =
           subst (λ x. Follows d ks x (numbered 0 (withLive d (d .clock) (d .count - 1) used) (Freed slot)) next words)
-          (sym (ap (λ x. record { answer = bare (x .number); board = x .board }) (withdrawn-there q)))
+          (sym (ap (λ x. record { answer = bare (x .number); state = withBoard (stateOf ks d) (x .board) }) gone))
           (record {
             number = refl;
             column = refl;
             start = refl;
             finish = refl;
             clock = refl;
-            columns = refl;
-            height = refl;
+            device = refl;
             keeps = record {
               slots = length-set ks slot freeSlot ∙ k .slots;
               size = c .size ∙ k .size;
@@ -273,16 +263,32 @@ module _ (d : Device) (ks : List Task) {rows masks : List ℕ} (k : Keeps d ks r
                 ∙ ap (set (allAgedTo (d .clock) tasks) slot) (aged-free-slot (d .clock)));
           })
         where
-          after : sound (d .columns) (d .rows) (d .clock) (set ks slot freeSlot) ≡ true
+          gone : withdrawn b n ≡ record { number = 0; board = boardOf (set ks slot freeSlot) (d .clock) (d .device) }
+          gone = withdrawn-freed b n good (known-at n p l) (λ t. begun-at) e slot-is q
+
+          after : sound (d .device) (d .clock) (set ks slot freeSlot) ≡ true
           after =
-              is-true (sound (d .columns) (d .rows) (d .clock) (set ks slot freeSlot))
-              (sound-in (d .columns) (d .rows) (d .clock) (set ks slot freeSlot) (subst (λ x. SoundBoard (x .board)) (withdrawn-there q) (withdrawn-stays-sound b n stands)))
+              is-true (sound (d .device) (d .clock) (set ks slot freeSlot))
+              (sound-in (d .device) (d .clock) (set ks slot freeSlot) (subst (λ x. SoundBoard (x .board)) gone (withdrawn-stays-sound b n stands)))
+
+    -- 13, 14
+    module _ (n p : ℕ) (l : Least (λ (i : ℕ). eqb (idAt rows i) n) 0 (d .count) p) {r : ℕ}
+        (e : r ≡ refusal (withdrawTests (ltb p (d .count)) (leb (startAt rows p) (d .clock)))) where
+      pub withdraw-refused : 0 < r → outcome (stateOf ks d) (Withdraw n) ≡ record { answer = bare r; state = stateOf ks d }
+      unfolding outcome
+      withdraw-refused h =
+          ap (λ x. record { answer = bare (x .number); state = withBoard (stateOf ks d) (x .board) })
+          (withdrawn-refused b n good (known-at n p l) (λ t. begun-at n p l (ltb-true p (d .count) t)) e h)
+
+      pub withdraw-found : r ≡ 0 → p < d .count
+      withdraw-found z =
+          ltb-true p (d .count) (withdrawn-known b n good (known-at n p l) (λ t. begun-at n p l (ltb-true p (d .count) t)) e z)
 
     -- 3 to 10
     pub step-unplaced : (n : ℕ) (a : Submission) (x : Answer) (m : ℕ) → x ≡ submitted b n a .answer → ((c t e : ℕ) → x ≡ Placed c t e → ⊥) → told x ≡ bare m
-        → outcome b (Submit n a) ≡ record { answer = bare m; board = b }
+        → outcome (stateOf ks d) (Submit n a) ≡ record { answer = bare m; state = stateOf ks d }
     unfolding outcome
-    step-unplaced n a x m e none? q = ap (λ y. record { answer = told (y .answer); board = y .board }) (unplaced-same b n a x (sym e) none?) ∙ ap (λ y. record { answer = y; board = b }) q
+    step-unplaced n a x m e none? q = ap (λ y. record { answer = told (y .answer); state = withBoard (stateOf ks d) (y .board) }) (unplaced-same b n a x (sym e) none?) ∙ ap (λ y. record { answer = y; state = stateOf ks d }) q
 
     -- A PLACE
     module _ (n : ℕ) (a : Submission) (free c t e : ℕ) (z : free ≡ lowestFree ks) (q : Placed c t e ≡ submitted b n a .answer) where
@@ -317,19 +323,18 @@ module _ (d : Device) (ks : List Task) {rows masks : List ℕ} (k : Keeps d ks r
 
       pub step-placed : a .id ≤ 4294967295 → (x : Task) → x ≡ booked (d .clock) a t c → {next words : List ℕ} → Inserted (d .count) free x rows masks next words → (used : ℕ)
           → ((j : ℕ) → j < 64 → bit used j ≡ (bit (d .used) j || eqb j free))
-          → Follows d ks (outcome b (Submit n a)) (record { number = 0; column = c; start = t; finish = e; device = withLive d (d .clock) (d .count + 1) used; change = Booked free x }) next words
+          → Follows d ks (outcome (stateOf ks d) (Submit n a)) (record { number = 0; column = c; start = t; finish = e; brief = withLive d (d .clock) (d .count + 1) used; change = Booked free x }) next words
       unfolding outcome told changed
       step-placed i x w {next} {words} p used f =
-          subst (λ o. Follows d ks o (record { number = 0; column = c; start = t; finish = e; device = withLive d (d .clock) (d .count + 1) used; change = Booked free x }) next words)
-          (sym (ap (λ o. record { answer = told (o .answer); board = o .board }) same))
+          subst (λ o. Follows d ks o (record { number = 0; column = c; start = t; finish = e; brief = withLive d (d .clock) (d .count + 1) used; change = Booked free x }) next words)
+          (sym (ap (λ o. record { answer = told (o .answer); state = withBoard (stateOf ks d) (o .board) }) same))
           (record {
             number = refl;
             column = refl;
             start = refl;
             finish = books .finish;
             clock = refl;
-            columns = refl;
-            height = refl;
+            device = refl;
             keeps = record {
               slots = length-set ks free x ∙ k .slots;
               size = p .numbers .size ∙ k .size;
@@ -347,32 +352,31 @@ module _ (d : Device) (ks : List Task) {rows masks : List ℕ} (k : Keeps d ks r
             records = λ tasks v q. ap (λ o. set o free x) (booked-as tasks q) ∙ sym (aged-set (d .clock) tasks free x ∙ ap (set (allAgedTo (d .clock) tasks) free) (task-now x w));
           })
         where
-          same : submitted b n a ≡ record { answer = Placed c t (t + a .e); board = boardOf (set ks free x) (d .clock) (d .columns) (d .rows) }
-          same = books .same ∙ ap (λ o. record { answer = Placed c t (t + a .e); board = boardOf (set ks free o) (d .clock) (d .columns) (d .rows) }) (sym w)
+          same : submitted b n a ≡ record { answer = Placed c t (t + a .e); board = boardOf (set ks free x) (d .clock) (d .device) }
+          same = books .same ∙ ap (λ o. record { answer = Placed c t (t + a .e); board = boardOf (set ks free o) (d .clock) (d .device) }) (sym w)
 
-          after : sound (d .columns) (d .rows) (d .clock) (set ks free x) ≡ true
+          after : sound (d .device) (d .clock) (set ks free x) ≡ true
           after =
-              is-true (sound (d .columns) (d .rows) (d .clock) (set ks free x))
-              (sound-in (d .columns) (d .rows) (d .clock) (set ks free x) (subst (λ o. SoundBoard (o .board)) same (submitted-sound b n a i stands)))
+              is-true (sound (d .device) (d .clock) (set ks free x))
+              (sound-in (d .device) (d .clock) (set ks free x) (subst (λ o. SoundBoard (o .board)) same (submitted-sound b n a i stands)))
 
   -- A BOARD WITHOUT A TASK
-  abbrev pub emptied : ℕ → ℕ → Bool → Device
-  emptied W H well = record { clock = 0; columns = W; rows = H; count = 0; used = 0; sound = well }
+  abbrev pub emptied : Device → Bool → Brief
+  emptied D well = record { clock = 0; device = D; count = 0; used = 0; sound = well }
 
-  step-empty : (n W H : ℕ) (well : Bool) (o : Outcome) → o ≡ record { answer = bare n; board = freshBoard W H }
-      → sound W H 0 (replicate 64 freeSlot) ≡ well → replicate 64 freeSlot ≡ asBooked (emptied W H well) (replicate 64 freeSlot)
-      → Follows d ks o (numbered n (emptied W H well) Cleared) rows masks
+  step-empty : (n : ℕ) (D : Device) (well : Bool) (o : Outcome) → o ≡ record { answer = bare n; state = withBoard (stateOf ks d) (freshBoard D) }
+      → sound D 0 (replicate 64 freeSlot) ≡ well → replicate 64 freeSlot ≡ asBooked (emptied D well) (replicate 64 freeSlot)
+      → Follows d ks o (numbered n (emptied D well) Cleared) rows masks
   unfolding freshBoard changed
-  step-empty n W H well o e g m =
-      subst (λ o. Follows d ks o (numbered n (emptied W H well) Cleared) rows masks) (sym e)
+  step-empty n D well o e g m =
+      subst (λ o. Follows d ks o (numbered n (emptied D well) Cleared) rows masks) (sym e)
       (record {
         number = refl;
         column = refl;
         start = refl;
         finish = refl;
         clock = refl;
-        columns = refl;
-        height = refl;
+        device = refl;
         keeps = record {
           slots = length-replicate 64 freeSlot;
           size = k .size;
@@ -387,16 +391,21 @@ module _ (d : Device) (ks : List Task) {rows masks : List ℕ} (k : Keeps d ks r
       })
 
   -- A NEW BOARD, and the board of zeros
-  pub step-new : (W H : ℕ) → deviceFits W H ≡ true → Follows d ks (outcome b (NewBoard W H)) (numbered 0 (emptied W H true) Cleared) rows masks
+  pub step-new : (W H : ℕ) → deviceFits (device W H) ≡ true → Follows d ks (outcome (stateOf ks d) (NewBoard W H)) (numbered 0 (emptied (device W H) true) Cleared) rows masks
   unfolding outcome freshBoard
   step-new W H fits =
-      step-empty 0 W H true (outcome b (NewBoard W H)) (ap (λ x. record { answer = bare (x .number); board = x .board }) (created-done W H fits))
-      (is-true (sound W H 0 (replicate 64 freeSlot)) (sound-in W H 0 (replicate 64 freeSlot) fresh)) (sym (aged-now W H 0 (replicate 64 freeSlot) fresh))
+      step-empty 0 D true (outcome (stateOf ks d) (NewBoard W H)) (ap (λ x. record { answer = bare (x .number); state = withBoard (stateOf ks d) (x .board) }) (created-done W H fits))
+      (is-true (sound D 0 (replicate 64 freeSlot)) (sound-in D 0 (replicate 64 freeSlot) fresh)) (sym (aged-now D 0 (replicate 64 freeSlot) fresh))
     where
-      fresh : Sound W H 0 (replicate 64 freeSlot)
+      D : Device
+      D = device W H
+
+      fresh : Sound D 0 (replicate 64 freeSlot)
       fresh = subst (λ x. SoundBoard (x .board)) (created-done W H fits) (created-sound W H (rw fits tt))
 
-  pub step-zero : (W H : ℕ) → deviceFits W H ≡ false → Follows d ks (outcome b (NewBoard W H)) (numbered 2 (emptied 0 0 false) Cleared) rows masks
+  pub step-zero : (W H : ℕ) → deviceFits (device W H) ≡ false
+      → Follows d ks (outcome (stateOf ks d) (NewBoard W H)) (numbered 2 (emptied (device 0 0) false) Cleared) rows masks
   unfolding outcome freshBoard
   step-zero W H fits =
-      step-empty 2 0 0 false (outcome b (NewBoard W H)) (ap (λ x. record { answer = bare (x .number); board = x .board }) (created-not W H fits)) zero-unsound refl
+      step-empty 2 (device 0 0) false (outcome (stateOf ks d) (NewBoard W H))
+      (ap (λ x. record { answer = bare (x .number); state = withBoard (stateOf ks d) (x .board) }) (created-not W H fits)) zero-unsound refl

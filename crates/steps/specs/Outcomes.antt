@@ -1,18 +1,27 @@
 -- What each event is answered: its call. Assumes nothing.
 use Rattle.board.specs.declared.Board.{Board}
 use Rattle.board.specs.Answers.{Told, bare, told}
-use Rattle.board.specs.Calls.{created, submitted, clocked, withdrawn}
+use Rattle.board.specs.Calls.{zeroBoard, created, submitted, clocked, withdrawn}
 use Rattle.events.specs.declared.Event.{Event}
 use Rattle.events.specs.declared.Event.the-variants.{NewBoard, Submit, Clock, Withdraw}
+use Rattle.steps.specs.declared.State.{State}
 
--- what an event is answered, and the board that follows
+-- "begins with an unsound board of zeros"
+abbrev pub firstState : State
+firstState = record { board = zeroBoard }
+
+-- the state with another board
+abbrev pub withBoard : State → Board → State
+withBoard s b = record { board = b }
+
+-- what an event is answered, and the state that follows
 pub record Outcome : Type 0 where
   pub answer : Told
-  pub board : Board
+  pub state : State
 
 -- each event is its call; "the last three 0 for all but submissions"
-unfoldable pub outcome : Board → Event → Outcome
-outcome b (NewBoard W H) = let r = created W H in record { answer = bare (r .number); board = r .board }
-outcome b (Submit n a) = let r = submitted b n a in record { answer = told (r .answer); board = r .board }
-outcome b (Clock i) = let r = clocked b i in record { answer = bare (r .number); board = r .board }
-outcome b (Withdraw n) = let r = withdrawn b n in record { answer = bare (r .number); board = r .board }
+unfoldable pub outcome : State → Event → Outcome
+outcome s (NewBoard W H) = let r = created W H in record { answer = bare (r .number); state = withBoard s (r .board) }
+outcome s (Submit n a) = let r = submitted (s .board) n a in record { answer = told (r .answer); state = withBoard s (r .board) }
+outcome s (Clock i) = let r = clocked (s .board) i in record { answer = bare (r .number); state = withBoard s (r .board) }
+outcome s (Withdraw n) = let r = withdrawn (s .board) n in record { answer = bare (r .number); state = withBoard s (r .board) }

@@ -1,25 +1,39 @@
-// What each event does to the board inside a run. Soundness is carried by proof, and no board is copied: the slots stand apart as
-// arrays of numbers.
+// What each event does to the board inside a run. Soundness is carried by proof, and no board is copied: its live tasks stand in the
+// table that the planners read.
 ghost use mathlib.Core.Path.{_≡_};
 ghost use mathlib.Core.List.{List};
 ghost use Rattle.tasks.specs.declared.Task.{Task};
-ghost use Rattle.board.specs.Untested.{boardOf};
 ghost use Rattle.events.specs.declared.Event.the-variants.{NewBoard, Submit, Clock, Withdraw};
 ghost use Rattle.steps.specs.declared.Change.the-variants.{Cleared};
-ghost use Rattle.steps.specs.Outcomes.{outcome};
-ghost use Rattle.steps.specs.Standing.{Keeps, Has, Follows};
+ghost use Rattle.steps.specs.Outcomes.{firstState, outcome};
+ghost use Rattle.steps.specs.Standing.{stateOf, Keeps, Has, Follows};
 use board::Answer;
+use board::Board;
 use events::Event;
 use live::Live;
 use live::Masks;
+use tasks::Device;
 use tasks::Submission;
 use tasks::Task;
 
-// The board inside a run, but for its slots: how many tasks are live, and which slots are theirs.
-pub struct Device {
+// The state of a run: what one event hands on to the next.
+pub struct State {
+    pub board: Board,
+}
+
+// "begins with an unsound board of zeros".
+pub fn first_state() -> State
+    ensures { λ r. ⌜ r ≡ firstState ⌝ }
+{
+    let made = Board::new(0, 0);
+    let zeros = made.board;
+    State { board: zeros }
+}
+
+// The board inside a run in brief, without its slots: how many tasks are live, and which slots are theirs.
+pub struct Brief {
     pub clock: u32,
-    pub columns: u16,
-    pub rows: u16,
+    pub device: Device,
     pub count: usize,
     pub used: u64,
     pub sound: bool,
@@ -33,40 +47,39 @@ pub enum Change {
     Cleared,
 }
 
-// What an event did: document 01's number and values, the device that follows, and what changed in the slots.
+// What an event did: document 01's number and values, the board in brief that follows, and what changed in the slots.
 pub struct Done {
     pub number: u8,
     pub column: u16,
     pub start: u32,
     pub finish: u32,
-    pub device: Device,
+    pub brief: Brief,
     pub change: Change,
 }
 
 // A number without a place.
-fn bare(number: u8, d: Device, change: Change) -> Done
-    ensures { λ r. ⌜ r ≡ record { number = number; column = 0; start = 0; finish = 0; device = d; change = change } ⌝ }
+fn bare(number: u8, d: Brief, change: Change) -> Done
+    ensures { λ r. ⌜ r ≡ record { number = number; column = 0; start = 0; finish = 0; brief = d; change = change } ⌝ }
 {
     Done {
         number: number,
         column: 0,
         start: 0,
         finish: 0,
-        device: d,
+        brief: d,
         change: change,
     }
 }
 
 // A board without a task.
-fn empty(number: u8, columns: u16, rows: u16, sound: bool) -> Done
-    ensures { λ r. ⌜ r ≡ record { number = number; column = 0; start = 0; finish = 0; device = record { clock = 0; columns = columns; rows = rows; count = 0; used = 0; sound = sound }; change = Cleared } ⌝ }
+fn empty(number: u8, on: Device, sound: bool) -> Done
+    ensures { λ r. ⌜ r ≡ record { number = number; column = 0; start = 0; finish = 0; brief = record { clock = 0; device = on; count = 0; used = 0; sound = sound }; change = Cleared } ⌝ }
 {
     bare(
         number,
-        Device {
+        Brief {
             clock: 0,
-            columns: columns,
-            rows: rows,
+            device: on,
             count: 0,
             used: 0,
             sound: sound,
@@ -76,37 +89,46 @@ fn empty(number: u8, columns: u16, rows: u16, sound: bool) -> Done
 }
 
 // A new board; 2 and the board of zeros where W or H is out of range.
-fn new_board<'a>(live: &'a Live, masks: &'a Masks, d: Device, columns: u16, rows: u16) -> Done
+fn new_board<'a>(live: &'a Live, masks: &'a Masks, d: Brief, columns: u16, rows: u16) -> Done
     requires { ⌜ Has d (now live) (now masks) ⌝ }
-    ensures { λ r. ⌜ ((ks : List Task) → Keeps d ks (now (live .entry)) (now (masks .entry)) → Follows d ks (outcome (boardOf ks (d .clock) (d .columns) (d .rows)) (NewBoard columns rows)) r (now (live .entry)) (now (masks .entry))) ⌝ }
+    ensures { λ r. ⌜ ((ks : List Task) → Keeps d ks (now (live .entry)) (now (masks .entry)) → Follows d ks (outcome (stateOf ks d) (NewBoard columns rows)) r (now (live .entry)) (now (masks .entry))) ⌝ }
 {
-    if slots::device_fits(columns, rows) {
-        return empty(0, columns, rows, true);
+    let on = Device {
+        columns: columns,
+        rows: rows,
+    };
+    if tasks::device_fits(on) {
+        return empty(0, on, true);
     }
-    empty(2, 0, 0, false)
+    empty(
+        2,
+        Device {
+            columns: 0,
+            rows: 0,
+        },
+        false,
+    )
 }
 
 // The clock moved to an instant: the tasks that have finished are the last ones.
-fn clock<'a>(live: &'a Live, masks: &'a Masks, d: Device, instant: u32) -> Done
+fn clock<'a>(live: &'a Live, masks: &'a Masks, d: Brief, instant: u32) -> Done
     requires { ⌜ Has d (now live) (now masks) ⌝ }
-    ensures { λ r. ⌜ ((ks : List Task) → Keeps d ks (now (live .entry)) (now (masks .entry)) → Follows d ks (outcome (boardOf ks (d .clock) (d .columns) (d .rows)) (Clock instant)) r (now (live .entry)) (now (masks .entry))) ⌝ }
+    ensures { λ r. ⌜ ((ks : List Task) → Keeps d ks (now (live .entry)) (now (masks .entry)) → Follows d ks (outcome (stateOf ks d) (Clock instant)) r (now (live .entry)) (now (masks .entry))) ⌝ }
 {
     if !d.sound {
         return bare(1, d, Change::Nothing);
     }
-    if instant < d.clock {
-        return bare(11, d, Change::Nothing);
+    let number = refusals::refuse_instant(d.clock, instant);
+    if 0 < number {
+        return bare(number, d, Change::Nothing);
     }
-    if 2_000_000_000 < instant {
-        return bare(12, d, Change::Nothing);
-    }
+    let on = d.device;
     let count = live::after(live, d.count, instant);
     bare(
         0,
-        Device {
+        Brief {
             clock: instant,
-            columns: d.columns,
-            rows: d.rows,
+            device: on,
             count: count,
             used: keeping::without_slots(live, d.used, count, d.count),
             sound: true,
@@ -115,29 +137,28 @@ fn clock<'a>(live: &'a Live, masks: &'a Masks, d: Device, instant: u32) -> Done
     )
 }
 
-// A waiting task withdrawn: its start has not come.
-fn withdraw<'a>(live: &'a mut Live, masks: &'a mut Masks, d: Device, id: u32) -> Done
+// A waiting task withdrawn. Where no live task has the id, whether one has begun is not asked: 13 comes first.
+fn withdraw<'a>(live: &'a mut Live, masks: &'a mut Masks, d: Brief, id: u32) -> Done
     requires { ⌜ Has d (now live) (now masks) ⌝ }
-    ensures { λ r. ⌜ ((ks : List Task) → Keeps d ks (now (live .entry)) (now (masks .entry)) → Follows d ks (outcome (boardOf ks (d .clock) (d .columns) (d .rows)) (Withdraw id)) r (now (live .exit)) (now (masks .exit))) ⌝ }
+    ensures { λ r. ⌜ ((ks : List Task) → Keeps d ks (now (live .entry)) (now (masks .entry)) → Follows d ks (outcome (stateOf ks d) (Withdraw id)) r (now (live .exit)) (now (masks .exit))) ⌝ }
 {
     if !d.sound {
         return bare(1, d, Change::Nothing);
     }
     let i = keeping::find(live, d.count, id);
-    if i == d.count {
-        return bare(13, d, Change::Nothing);
+    let begun = live[live::START + i] <= d.clock;
+    let number = refusals::refuse_withdrawal(i < d.count, begun);
+    if 0 < number {
+        return bare(number, d, Change::Nothing);
     }
-    if live[live::START + i] <= d.clock {
-        return bare(14, d, Change::Nothing);
-    }
+    let on = d.device;
     let slot = live[live::SLOT + i];
     keeping::remove(live, masks, d.count, i);
     bare(
         0,
-        Device {
+        Brief {
             clock: d.clock,
-            columns: d.columns,
-            rows: d.rows,
+            device: on,
             count: d.count - 1,
             used: live::without_slot(d.used, slot),
             sound: true,
@@ -152,29 +173,20 @@ fn withdraw<'a>(live: &'a mut Live, masks: &'a mut Masks, d: Device, id: u32) ->
 fn submit<'a>(
     live: &'a mut Live,
     masks: &'a mut Masks,
-    d: Device,
+    d: Brief,
     planner: u8,
     a: Submission,
 ) -> Done
     requires { ⌜ Has d (now live) (now masks) ⌝ }
-    ensures { λ r. ⌜ ((ks : List Task) → Keeps d ks (now (live .entry)) (now (masks .entry)) → Follows d ks (outcome (boardOf ks (d .clock) (d .columns) (d .rows)) (Submit planner a)) r (now (live .exit)) (now (masks .exit))) ⌝ }
+    ensures { λ r. ⌜ ((ks : List Task) → Keeps d ks (now (live .entry)) (now (masks .entry)) → Follows d ks (outcome (stateOf ks d) (Submit planner a)) r (now (live .exit)) (now (masks .exit))) ⌝ }
 {
     if !d.sound {
         return bare(1, d, Change::Nothing);
     }
+    let on = d.device;
     let free = live::lowest_free(d.used);
     let slot = free as usize;
-    let answer = board::decide(
-        live,
-        masks,
-        d.count,
-        slot,
-        d.columns,
-        d.rows,
-        d.clock,
-        planner,
-        a,
-    );
+    let answer = board::decide(live, masks, d.count, slot, on, d.clock, planner, a);
     match answer {
         Answer::Rejected => bare(10, d, Change::Nothing),
         Answer::Refused(number) => bare(number, d, Change::Nothing),
@@ -190,10 +202,9 @@ fn submit<'a>(
                 column: column,
                 start: from,
                 finish: to,
-                device: Device {
+                brief: Brief {
                     clock: d.clock,
-                    columns: d.columns,
-                    rows: d.rows,
+                    device: on,
                     count: d.count + 1,
                     used: live::with_slot(d.used, free),
                     sound: true,
@@ -208,9 +219,9 @@ fn submit<'a>(
 }
 
 // What an event did.
-pub fn answered<'a>(live: &'a mut Live, masks: &'a mut Masks, d: Device, event: Event) -> Done
+pub fn answered<'a>(live: &'a mut Live, masks: &'a mut Masks, d: Brief, event: Event) -> Done
     requires { ⌜ Has d (now live) (now masks) ⌝ }
-    ensures { λ r. ⌜ ((ks : List Task) → Keeps d ks (now (live .entry)) (now (masks .entry)) → Follows d ks (outcome (boardOf ks (d .clock) (d .columns) (d .rows)) event) r (now (live .exit)) (now (masks .exit))) ⌝ }
+    ensures { λ r. ⌜ ((ks : List Task) → Keeps d ks (now (live .entry)) (now (masks .entry)) → Follows d ks (outcome (stateOf ks d) event) r (now (live .exit)) (now (masks .exit))) ⌝ }
 {
     match event {
         Event::NewBoard { columns, rows } => new_board(live, masks, d, columns, rows),

@@ -12,6 +12,7 @@ use lib.Seq.{take-all}
 use Rattle.lists.specs.Lists.{all?}
 use Rattle.lists.proofs.Bools.{and-l, and-r, is-true}
 use Rattle.lists.proofs.Append.{all-more}
+use Rattle.tasks.specs.declared.Device.{Device}
 use Rattle.tasks.specs.declared.Task.{Task}
 use Rattle.tasks.specs.Tasks.{finish, live, freeSlot}
 use Rattle.slots.specs.Slots.{slotSound}
@@ -27,7 +28,7 @@ use Rattle.survey.specs.Survey.{Surveyed}
 abbrev pub numbersOf : Task → ℕ → List ℕ
 numbersOf k i = k .start ∷ ((k .start + k .e) % 4294967296) ∷ k .column ∷ (k .column + k .w) ∷ k .id ∷ i ∷ []
 
-module _ (W H now : ℕ) (ks : List Task) where
+module _ (D : Device) (now : ℕ) (ks : List Task) where
   -- after i slots
   pub record Passed (rows : List ℕ) (n used : ℕ) (sound : Bool) (i : ℕ) : Type 0 where
     pub size : length rows ≡ 384
@@ -35,8 +36,8 @@ module _ (W H now : ℕ) (ks : List Task) where
     pub upto : i ≤ 64
     pub below : n ≤ i
     pub taken : InUse i ks used
-    pub sounds : sound ≡ all? (slotSound W H now) (take i ks)
-    pub stands : T (all? (slotSound W H now) (take i ks)) → Stands i ks n rows
+    pub sounds : sound ≡ all? (slotSound D now) (take i ks)
+    pub stands : T (all? (slotSound D now) (take i ks)) → Stands i ks n rows
 
   pub begin : (rows : List ℕ) → length rows ≡ 384 → length ks ≡ 64 → ((j : ℕ) → j < 64 → bit 0 j ≡ false) → Passed rows 0 0 true 0
   unfolding all?
@@ -51,13 +52,13 @@ module _ (W H now : ℕ) (ks : List Task) where
   }
 
   -- a sound live task's finish fits
-  fits : (k : Task) → T (live k) → T (slotSound W H now k) → (k .start + k .e) % 4294967296 ≡ finish k
+  fits : (k : Task) → T (live k) → T (slotSound D now k) → (k .start + k .e) % 4294967296 ≡ finish k
   unfolding slotSound
-  fits k t s = let o = task-out W H now k t (rw (is-true (live k) t) at s) in omega (arith, o .in-time, o .d)
+  fits k t s = let o = task-out D now k t (rw (is-true (live k) t) at s) in omega (arith, o .in-time, o .d)
 
   -- ONE SLOT MORE
   pub pass : {rows : List ℕ} {n used : ℕ} {sound : Bool} {i : ℕ} → Passed rows n used sound i → i < 64
-      → {well alive : Bool} {more next : ℕ} → well ≡ slotSound W H now (getD ks i freeSlot) → alive ≡ live (getD ks i freeSlot)
+      → {well alive : Bool} {more next : ℕ} → well ≡ slotSound D now (getD ks i freeSlot) → alive ≡ live (getD ks i freeSlot)
       → more ≡ cond alive 1 0 → ((j : ℕ) → j < 64 → bit next j ≡ (bit used j || (alive && eqb j i)))
       → Passed (putFrom 0 rows n (numbersOf (getD ks i freeSlot) i)) (n + more) next (sound && well) (i + 1)
   unfolding number
@@ -74,8 +75,8 @@ module _ (W H now : ℕ) (ks : List Task) where
       k : Task
       k = getD ks i freeSlot
 
-      every-more : all? (slotSound W H now) (take (i + 1) ks) ≡ (all? (slotSound W H now) (take i ks) && slotSound W H now k)
-      every-more = all-more (slotSound W H now) ks i freeSlot (omega (arith, p .slots))
+      every-more : all? (slotSound D now) (take (i + 1) ks) ≡ (all? (slotSound D now) (take i ks) && slotSound D now k)
+      every-more = all-more (slotSound D now) ks i freeSlot (omega (arith, p .slots))
 
       low : (b : Bool) → more ≡ cond b 1 0 → n + more ≤ i + 1
       low true e = omega (arith, p .below)
@@ -106,21 +107,21 @@ module _ (W H now : ℕ) (ks : List Task) where
       here : (r : ℕ) → r < 6 → at r (putFrom 0 rows n (numbersOf k i)) n ≡ getD (numbersOf k i) r 0
       here r q = put-here (numbersOf k i) rows n r (omega (arith, p .below)) q (omega (arith, p .size))
 
-      step : T (all? (slotSound W H now) (take i ks) && slotSound W H now k) → (b : Bool) → live k ≡ b → Stands (i + 1) ks (n + more) (putFrom 0 rows n (numbersOf k i))
+      step : T (all? (slotSound D now) (take i ks) && slotSound D now k) → (b : Bool) → live k ≡ b → Stands (i + 1) ks (n + more) (putFrom 0 rows n (numbersOf k i))
       step t true e =
-          let before = p .stands (and-l (all? (slotSound W H now) (take i ks)) (slotSound W H now k) t) in
-          let good = and-r (all? (slotSound W H now) (take i ks)) (slotSound W H now k) t in
+          let before = p .stands (and-l (all? (slotSound D now) (take i ks)) (slotSound D now k) t) in
+          let good = and-r (all? (slotSound D now) (take i ks)) (slotSound D now k) t in
           let z : more ≡ 1 = m ∙ ap (λ b. cond b 1 0) (a ∙ e) in
           rw z (slot-taken before h (putFrom 0 rows n (numbersOf k i)) other (p .below) (rw e tt)
           (λ r q. here r q ∙ six (λ r. getD (numbersOf k i) r 0 ≡ number r i k) refl (fits k (rw e tt) good) refl refl refl refl r q))
       step t false e =
-          let before = p .stands (and-l (all? (slotSound W H now) (take i ks)) (slotSound W H now k) t) in
+          let before = p .stands (and-l (all? (slotSound D now) (take i ks)) (slotSound D now k) t) in
           let z : n + more ≡ n = let y : more ≡ 0 = m ∙ ap (λ b. cond b 1 0) (a ∙ e) in omega arith in
           rw z (slot-skipped before h (putFrom 0 rows n (numbersOf k i)) other e)
 
   -- AFTER THE LAST
   pub end : {rows : List ℕ} {n used : ℕ} {sound : Bool} {i : ℕ} → Passed rows n used sound i → i ≡ 64
-      → Surveyed W H now ks rows (record { count = n; used = used; sound = sound })
+      → Surveyed D now ks rows (record { count = n; used = used; sound = sound })
   end {rows} {n} {used} {sound} {i} p e =
       let t : take i ks ≡ ks = take-all i ks (omega (arith, p .slots)) in
       record {
@@ -128,6 +129,6 @@ module _ (W H now : ℕ) (ks : List Task) where
         slots = p .slots;
         few = omega (arith, p .below);
         used = subst (λ m. InUse m ks used) e (p .taken);
-        sound = p .sounds ∙ ap (all? (slotSound W H now)) t;
+        sound = p .sounds ∙ ap (all? (slotSound D now)) t;
         stands = λ h. rw e at (p .stands (rw t h));
       }

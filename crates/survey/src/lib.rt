@@ -8,6 +8,7 @@ ghost use Rattle.words.specs.Words.{bit};
 ghost use Rattle.tasks.specs.declared.Task.{Task};
 ghost use Rattle.survey.specs.Survey.{Surveyed};
 use live::Live;
+use tasks::Device;
 use tasks::Task;
 
 // How many live tasks there are, which slots are theirs, and whether the slots are sound.
@@ -29,9 +30,9 @@ fn used_with(used: u64, i: u32, on: bool) -> u64
 }
 
 // The survey of the slots. Each slot is put at `count`, and `count` goes past it only where it is live: no branch to miss.
-pub fn survey(columns: u16, rows: u16, clock: u32, tasks: [Task; 64], live: &mut Live) -> Findings
+pub fn survey(on: Device, clock: u32, tasks: [Task; 64], live: &mut Live) -> Findings
     requires { ⌜ length (now live) ≡ 384 ⌝ }
-    ensures { λ r. ⌜ Surveyed columns rows clock tasks (now (live .exit)) r ⌝ }
+    ensures { λ r. ⌜ Surveyed on clock tasks (now (live .exit)) r ⌝ }
 {
     let mut count: usize = 0;
     let mut used: u64 = 0;
@@ -39,8 +40,8 @@ pub fn survey(columns: u16, rows: u16, clock: u32, tasks: [Task; 64], live: &mut
     let mut i: usize = 0;
     while i < 64 {
         let k = tasks[i];
-        let well = slots::slot_sound(columns, rows, clock, k);
-        let on = tasks::is_live(k);
+        let well = slots::slot_sound(on, clock, k);
+        let lives = tasks::is_live(k);
         sound = sound & well;
         live::put(
             live,
@@ -52,8 +53,8 @@ pub fn survey(columns: u16, rows: u16, clock: u32, tasks: [Task; 64], live: &mut
             k.id,
             i as u32,
         );
-        count += slots::one_if(on);
-        used = used_with(used, i as u32, on);
+        count += slots::one_if(lives);
+        used = used_with(used, i as u32, lives);
         i += 1;
     }
     Findings {

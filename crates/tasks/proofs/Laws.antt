@@ -1,7 +1,7 @@
 -- What the tests of `specs/` mean: sharing a column at a tick is Definition 1 of the source; a phase is its instants. Assumes nothing.
 use Prim.Native.Nat.{ℕ, _+_, _≤_, _<_, max, min}
-use mathlib.Core.Path.{_≡_, sym, ap, _∙_, subst}
-use mathlib.Core.Bool.{true, false, _&&_}
+use mathlib.Core.Path.{_≡_, refl, sym, ap, _∙_, subst}
+use mathlib.Core.Bool.{Bool, true, false, not, cond, _&&_}
 use native.Mathlib.Omega.{arith}
 use native.Mathlib.Decide.{decLe, decLt}
 use lib.Dec.{T, leb, ltb, leb→le, le→leb, ltb→lt, lt→ltb, eqb→eq}
@@ -10,7 +10,7 @@ use Rattle.lists.proofs.Bools.{and-l, and-r, and-i, same-bool}
 use Rattle.tasks.specs.declared.Phase.the-variants.{Ended, Waiting, Running}
 use Rattle.tasks.specs.declared.Task.{Task}
 use Rattle.tasks.specs.Numbers.{within}
-use Rattle.tasks.specs.Tasks.{finish, overlap, meets, covers, holds, phaseAt, runningPhase, freeSlot, zeros}
+use Rattle.tasks.specs.Tasks.{finish, overlap, meets, covers, holds, phaseAt, runningPhase, samePhase, freeSlot, zeros}
 
 -- a number from lo to hi
 pub record Between (lo hi n : ℕ) : Type 0 where
@@ -165,3 +165,31 @@ zeros-free t h p = λ i. record {
   column = eqb→eq (t .column) 0 (search (and-l, and-r) depth 9) i;
   phase = p i;
 }
+
+-- each phase by the two tests of the rule
+pub is-ended : (i : ℕ) (t : Task) → samePhase Ended (phaseAt i t) ≡ (not (ltb i (t .start)) && not (ltb i (finish t)))
+unfolding phaseAt
+is-ended i t = by (ltb i (t .start)) (ltb i (finish t))
+  where
+    by : (w h : Bool) → samePhase Ended (cond w Waiting (cond h Running Ended)) ≡ (not w && not h)
+    by true h = refl
+    by false true = refl
+    by false false = refl
+
+pub is-waiting : (i : ℕ) (t : Task) → samePhase Waiting (phaseAt i t) ≡ ltb i (t .start)
+unfolding phaseAt
+is-waiting i t = by (ltb i (t .start)) (ltb i (finish t))
+  where
+    by : (w h : Bool) → samePhase Waiting (cond w Waiting (cond h Running Ended)) ≡ w
+    by true h = refl
+    by false true = refl
+    by false false = refl
+
+pub is-running : (i : ℕ) (t : Task) → samePhase Running (phaseAt i t) ≡ (not (ltb i (t .start)) && ltb i (finish t))
+unfolding phaseAt
+is-running i t = by (ltb i (t .start)) (ltb i (finish t))
+  where
+    by : (w h : Bool) → samePhase Running (cond w Waiting (cond h Running Ended)) ≡ (not w && h)
+    by true h = refl
+    by false true = refl
+    by false false = refl

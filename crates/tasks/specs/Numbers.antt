@@ -2,6 +2,7 @@
 use Prim.Native.Nat.{ℕ}
 use mathlib.Core.Bool.{Bool, _&&_}
 use lib.Dec.{leb}
+use Rattle.tasks.specs.declared.Device.{Device}
 
 -- "W 1 to 256"
 abbrev pub mostColumns : ℕ
@@ -27,17 +28,25 @@ lastInstant = 2000000000
 abbrev pub largestId : ℕ
 largestId = 4294967295
 
+-- planners: "0 Reference", "1 Horizon", "2 Stuffing", "3 Full"
+abbrev pub lastPlanner : ℕ
+lastPlanner = 3
+
 -- n is from lo to hi
 abbrev pub within : ℕ → ℕ → ℕ → Bool
 within lo hi n = leb lo n && leb n hi
 
+-- a device of W columns and H rows
+abbrev pub device : ℕ → ℕ → Device
+device W H = record { columns = W; rows = H }
+
 -- "W 1 to 256; H 1 to 1,024"
-abbrev pub deviceFits : ℕ → ℕ → Bool
-deviceFits W H = within 1 mostColumns W && within 1 mostRows H
+abbrev pub deviceFits : Device → Bool
+deviceFits D = within 1 mostColumns (D .columns) && within 1 mostRows (D .rows)
 
 -- "Width 1 to W; height 1 to H"
-abbrev pub sizeFits : ℕ → ℕ → ℕ → ℕ → Bool
-sizeFits W H w h = within 1 W w && within 1 H h
+abbrev pub sizeFits : Device → ℕ → ℕ → Bool
+sizeFits D w h = within 1 (D .columns) w && within 1 (D .rows) h
 
 -- "execution e 1 to 1,000,000; deadline d .. 0 to 2,000,000,000"
 abbrev pub timeFits : ℕ → ℕ → Bool

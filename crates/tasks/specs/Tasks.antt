@@ -1,6 +1,6 @@
 -- A task: when it holds which columns, its phase at an instant, its record. Assumes nothing.
 use Prim.Native.Nat.{ℕ, _+_, max, min}
-use mathlib.Core.Bool.{Bool, true, false, cond, _&&_}
+use mathlib.Core.Bool.{Bool, true, false, not, cond, _&&_}
 use mathlib.Core.List.{List, map}
 use lib.Dec.{leb, ltb, eqb}
 use Rattle.tasks.specs.declared.Phase.{Phase}
@@ -49,6 +49,12 @@ abbrev pub runningPhase : Phase → Bool
 runningPhase Ended = false
 runningPhase Waiting = false
 runningPhase Running = true
+
+-- two phases are the same
+abbrev pub samePhase : Phase → Phase → Bool
+samePhase Ended p = not (livePhase p)
+samePhase Waiting p = waitingPhase p
+samePhase Running p = runningPhase p
 
 -- a slot's record is a live task
 abbrev pub live : Task → Bool

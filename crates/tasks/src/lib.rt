@@ -1,8 +1,29 @@
 // The task's own record: what a slot of the board holds, and what a submission asks for.
 ghost use mathlib.Core.Path.{_≡_};
 ghost use Prim.Native.Nat.{_+_};
-ghost use Rattle.tasks.specs.Numbers.{sizeFits, timeFits};
-ghost use Rattle.tasks.specs.Tasks.{live, runningPhase, stamped, freeSlot, zeros, booked};
+ghost use Rattle.tasks.specs.Numbers.{deviceFits, sizeFits, timeFits};
+ghost use Rattle.tasks.specs.Tasks.{live, waitingPhase, samePhase, phaseAt, stamped, freeSlot, zeros, booked};
+
+// The limits of document 01, "Numbers": each once.
+pub const MOST_COLUMNS: u16 = 256;
+
+pub const MOST_ROWS: u16 = 1024;
+
+pub const LONGEST: u32 = 1_000_000;
+
+pub const LAST_INSTANT: u32 = 2_000_000_000;
+
+pub const LARGEST_ID: u32 = 4_294_967_295;
+
+pub const MOST_TASKS: usize = 64;
+
+pub const LAST_PLANNER: u8 = 3;
+
+// The columns and rows of a board: what a task has to fit.
+pub struct Device {
+    pub columns: u16,
+    pub rows: u16,
+}
 
 // "each record carries its phase: waiting, running or ended". Ended is first: a free slot is then all zeros.
 pub enum Phase {
@@ -44,14 +65,15 @@ pub fn is_live(k: Task) -> bool
     }
 }
 
-pub fn is_running(k: Task) -> bool
-    ensures { λ r. ⌜ r ≡ runningPhase (k .phase) ⌝ }
+// It has not begun to hold its columns.
+pub fn is_waiting(k: Task) -> bool
+    ensures { λ r. ⌜ r ≡ waitingPhase (k .phase) ⌝ }
 {
     let phase = k.phase;
     match phase {
         Phase::Ended => false,
-        Phase::Waiting => false,
-        Phase::Running => true,
+        Phase::Waiting => true,
+        Phase::Running => false,
     }
 }
 
@@ -90,6 +112,20 @@ fn finish(start: u32, e: u32) -> u64
     start as u64 + e as u64
 }
 
+// Whether the record's phase is the one that it has at an instant.
+pub fn in_phase(k: Task, instant: u32) -> bool
+    ensures { λ r. ⌜ r ≡ samePhase (k .phase) (phaseAt instant k) ⌝ }
+{
+    let waits = instant < k.start;
+    let held = (instant as u64) < finish(k.start, k.e);
+    let phase = k.phase;
+    match phase {
+        Phase::Ended => !waits & !held,
+        Phase::Waiting => waits,
+        Phase::Running => !waits & held,
+    }
+}
+
 // The record with the phase that it has at an instant.
 pub fn stamp(k: Task, instant: u32) -> Task
     ensures { λ r. ⌜ r ≡ stamped instant k ⌝ }
@@ -112,18 +148,25 @@ pub fn stamp(k: Task, instant: u32) -> Task
     }
 }
 
-// "Width 1 to W; height 1 to H".
-pub fn size_fits(columns: u16, rows: u16, w: u16, h: u16) -> bool
-    ensures { λ r. ⌜ r ≡ sizeFits columns rows w h ⌝ }
+// "W 1 to 256; H 1 to 1,024".
+pub fn device_fits(on: Device) -> bool
+    ensures { λ r. ⌜ r ≡ deviceFits on ⌝ }
 {
-    ((1 <= w) & (w <= columns)) & ((1 <= h) & (h <= rows))
+    ((1 <= on.columns) & (on.columns <= MOST_COLUMNS)) & ((1 <= on.rows) & (on.rows <= MOST_ROWS))
+}
+
+// "Width 1 to W; height 1 to H".
+pub fn size_fits(on: Device, w: u16, h: u16) -> bool
+    ensures { λ r. ⌜ r ≡ sizeFits on w h ⌝ }
+{
+    ((1 <= w) & (w <= on.columns)) & ((1 <= h) & (h <= on.rows))
 }
 
 // "execution e 1 to 1,000,000; deadline d .. 0 to 2,000,000,000".
 pub fn time_fits(e: u32, d: u32) -> bool
     ensures { λ r. ⌜ r ≡ timeFits e d ⌝ }
 {
-    ((1 <= e) & (e <= 1_000_000)) & (d <= 2_000_000_000)
+    ((1 <= e) & (e <= LONGEST)) & (d <= LAST_INSTANT)
 }
 
 // The record as submitted with the column and start answered, in the phase that it has at now.

@@ -18,8 +18,8 @@ large-buffer-requires c κs = search needs
 no-words-requires : tie.Need-no-words-requires Inv-loop μ-loop
 no-words-requires c κs = search needs
 
-new-requires : tie.Need-new-requires Inv-loop μ-loop
-new-requires c κs = search needs
+first-state-requires : tie.Need-first-state-requires Inv-loop μ-loop
+first-state-requires c κs = search needs
 
 loop-holds : tie.Need-loop-holds Inv-loop μ-loop
 loop-holds c = search needs
@@ -62,7 +62,7 @@ recorded-spec =
     μ-loop
     large-buffer-requires
     no-words-requires
-    new-requires
+    first-state-requires
     loop-holds
     slice-aggregate-run-on
     slice-aggregate-run-on-2

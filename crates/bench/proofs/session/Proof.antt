@@ -34,8 +34,8 @@ later-requires c κs = search needs
 add-round : tie.Need-add-round Inv-loop μ-loop
 add-round c = search needs
 
-clock-untested-requires : tie.Need-clock-untested-requires Inv-loop μ-loop
-clock-untested-requires c κs = search needs
+clock-requires : tie.Need-clock-requires Inv-loop μ-loop
+clock-requires c κs = search needs
 
 asked-requires : tie.Need-asked-requires Inv-loop μ-loop
 asked-requires c κs = search needs
@@ -69,7 +69,7 @@ session-spec =
     pick-requires
     later-requires
     add-round
-    clock-untested-requires
+    clock-requires
     asked-requires
     submit-requires
     mixed-requires

@@ -19,7 +19,7 @@ returns c =
     let d = c .before .before in
     let v = d .before .survey in
     let a = d .before .before .before .args in
-    tested-not (a .columns) (a .rows) (a .clock) (a .tasks) _ (v .result) (v .ensures) (search needs)
+    tested-not (a .on) (a .clock) (a .tasks) _ (v .result) (v .ensures) (search needs)
     (ap (λ b. b && leb (a .clock) 2000000000 && v .result .sound) (sym (d .device-fits .ensures)) ∙ not-true _ (c .if1 .taken))
 
 sort-requires : tie.Need-sort-requires
@@ -35,7 +35,7 @@ none-meets-requires c κs =
     let d = b .before .before in
     let v = d .before .survey in
     let a = d .before .before .before .args in (
-      sorted-device (a .columns) (a .rows) (a .clock) (a .tasks) _ (v .result) (v .ensures)
+      sorted-device (a .on) (a .clock) (a .tasks) _ (v .result) (v .ensures)
           (ap (λ b. b && leb (a .clock) 2000000000 && v .result .sound) (sym (d .device-fits .ensures)) ∙ not-false _ (b .if1 .left))
           (s .sort .ensures),
       s .sort .ensures .falling,
@@ -49,7 +49,7 @@ returns-2 c =
     let d = b .before .before in
     let v = d .before .survey in
     let a = d .before .before .before .args in
-    tested-pairs (a .columns) (a .rows) (a .clock) (a .tasks) _ (v .result) (v .ensures)
+    tested-pairs (a .on) (a .clock) (a .tasks) _ (v .result) (v .ensures)
     (ap (λ b. b && leb (a .clock) 2000000000 && v .result .sound) (sym (d .device-fits .ensures)) ∙ not-false _ (b .if1 .left))
     (s .sort .ensures) (i .ids-differ .ensures) (c .none-meets .ensures)
 

@@ -22,8 +22,8 @@ large-buffer-requires-2 c κs = search needs
 no-lines-requires : tie.Need-no-lines-requires Inv-loop μ-loop
 no-lines-requires c κs = search needs
 
-new-requires : tie.Need-new-requires Inv-loop μ-loop
-new-requires c κs = search needs
+first-state-requires : tie.Need-first-state-requires Inv-loop μ-loop
+first-state-requires c κs = search needs
 
 headed-requires : tie.Need-headed-requires Inv-loop μ-loop
 headed-requires c κs = search needs
@@ -79,7 +79,7 @@ main-spec =
     large-buffer-requires
     large-buffer-requires-2
     no-lines-requires
-    new-requires
+    first-state-requires
     headed-requires
     turns-left-requires
     loop-holds

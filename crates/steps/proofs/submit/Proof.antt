@@ -1,6 +1,7 @@
 -- `steps::submit` meets its contract: 1, as is decided, and a task that is placed stands in the table. Assumes nothing.
-use Prim.Native.Nat.{_≤_}
-use mathlib.Core.Path.{sym, _∙_}
+use Prim.Native.Nat.{_+_, _≤_, _<_}
+use mathlib.Core.Path.{_≡_, sym, _∙_}
+use mathlib.Core.Bool.{true}
 use native.Mathlib.Omega.{arith}
 use mir.Syntax.{w32}
 use mir.Val.{Fits}
@@ -15,6 +16,29 @@ use Rattle.steps.proofs.submit.Tie as tie
 -- an id has 32 bits
 id-fits : (s : tie.Start) → Fits w32 (s .args .a .id)
 id-fits s = search needs
+
+-- the board is sound
+sound : (e : tie.Else1) → e .before .before .args .d .sound ≡ true
+sound e = not-false (e .before .before .args .d .sound) (e .if1 .left)
+
+-- what a booking needs: the table has room, the slot lies in it, and the task's finish fits
+ready : (y : tie.After-booked) → let f = y .before .before .before .before .before .before .before in
+    (f .before .before .before .before .args .d .count < 64) × (f .lowest-free .result < 64) × (y .booked .result .start + y .booked .result .e ≤ 4294967295)
+ready y =
+    let g = y .before .before in
+    let x = g .before .before in
+    let f = x .before .before .before in
+    let e = f .before .before in
+    let st = e .before .before in
+    let a = st .args in
+    let k = st .pre .keeps in
+    let u = sound e in
+    let l = free-lowest (k .slots) (k .used u) (f .lowest-free .ensures) in
+    let q = sym (g .answer2 .given .1) ∙ x .decide .ensures (st .pre .tasks) (k .kept u) l in (
+      has-room (a .d) (st .pre .tasks) k u (a .planner) (a .a) _ _ _ _ l q,
+      books (a .d) (st .pre .tasks) k u (a .planner) (a .a) _ _ _ _ l q .inside,
+      task-fits (a .d) (st .pre .tasks) k u (a .planner) (a .a) _ _ _ _ l q _ (y .booked .ensures),
+    )
 
 bare-requires : tie.Need-bare-requires
 bare-requires c κs = search needs
@@ -34,10 +58,10 @@ cast-slot c = search needs
 decide-requires : tie.Need-decide-requires
 decide-requires c κs =
     let f = c .before .before in
-    let e = f .before in
+    let e = f .before .before in
     let st = e .before .before in
     let k = st .pre .keeps in
-    let u = not-false (st .args .d .sound) (e .if1 .left) in
+    let u = sound e in
     record { slots = st .pre .tasks; kept = k .kept u; lowest = free-lowest (k .slots) (k .used u) (f .lowest-free .ensures); masked = λ x y. k .masked u }
 
 enum-told : tie.Need-enum-told
@@ -60,81 +84,55 @@ booked-requires c κs = search needs
 
 insert-requires : tie.Need-insert-requires
 insert-requires c κs =
-    let x = c .before .before .before .before .before .before in
-    let f = x .before .before .before in
-    let e = f .before in
-    let st = e .before .before in
-    let a = st .args in
-    let k = st .pre .keeps in
-    let u = not-false (a .d .sound) (e .if1 .left) in
-    let l = free-lowest (k .slots) (k .used u) (f .lowest-free .ensures) in
-    let q = sym (c .before .before .before .before .answer2 .given .1) ∙ x .decide .ensures (st .pre .tasks) (k .kept u) l in
-    let fits = task-fits (a .d) (st .pre .tasks) k u (a .planner) (a .a) _ _ _ _ l q _ (c .before .before .booked .ensures) in
-    (has-room (a .d) (st .pre .tasks) k u (a .planner) (a .a) _ _ _ _ l q, books (a .d) (st .pre .tasks) k u (a .planner) (a .a) _ _ _ _ l q .inside, fits, k .size, k .wide, k .kept u .falling)
-
-add-t24 : tie.Need-add-t24
-add-t24 c =
     let y = c .before .before in
-    let x = y .before .before .before .before .before .before in
-    let f = x .before .before .before in
-    let e = f .before in
-    let st = e .before .before in
-    let a = st .args in
-    let k = st .pre .keeps in
-    let u = not-false (a .d .sound) (e .if1 .left) in
-    let l = free-lowest (k .slots) (k .used u) (f .lowest-free .ensures) in
-    let q = sym (y .before .before .before .before .answer2 .given .1) ∙ x .decide .ensures (st .pre .tasks) (k .kept u) l in
-    omega (arith, has-room (a .d) (st .pre .tasks) k u (a .planner) (a .a) _ _ _ _ l q)
+    let e = y .before .before .before .before .before .before .before .before .before in
+    let k = e .before .before .pre .keeps in
+    let r = ready y in
+    (r .0, r .1, r .2, k .size, k .wide, k .kept (sound e) .falling)
+
+add-t25 : tie.Need-add-t25
+add-t25 c = omega (arith, ready (c .before .before .before .before) .0)
 
 with-slot-requires : tie.Need-with-slot-requires
-with-slot-requires c κs =
-    let y = c .before .before in
-    let x = y .before .before .before .before .before .before in
-    let f = x .before .before .before in
-    let e = f .before in
-    let st = e .before .before in
-    let a = st .args in
-    let k = st .pre .keeps in
-    let u = not-false (a .d .sound) (e .if1 .left) in
-    let l = free-lowest (k .slots) (k .used u) (f .lowest-free .ensures) in
-    let q = sym (y .before .before .before .before .answer2 .given .1) ∙ x .decide .ensures (st .pre .tasks) (k .kept u) l in
-    books (a .d) (st .pre .tasks) k u (a .planner) (a .a) _ _ _ _ l q .inside
+with-slot-requires c κs = ready (c .before .before .before .before) .1
 
 returns-2 : tie.Need-returns-2
 returns-2 c = λ ks k.
     let x = c .before .before .before in
     let f = x .before .before .before in
-    let e = f .before in
+    let e = f .before .before in
     let a = e .before .before .args in
-    let u = not-false (a .d .sound) (e .if1 .left) in
+    let u = sound e in
     let l = free-lowest (k .slots) (k .used u) (f .lowest-free .ensures) in
-    rw (c .bare2 .ensures)
-    (step-same (a .d) ks k _ 10 (step-unplaced (a .d) ks k u (a .planner) (a .a) _ 10 (sym (c .before .enum-told .given .1) ∙ x .decide .ensures ks (k .kept u) l) rejected-places told-rejected))
+    let q = sym (c .before .enum-told .given .1) ∙ x .decide .ensures ks (k .kept u) l in
+    rw (c .bare2 .ensures) (step-same (a .d) ks k _ 10 (step-unplaced (a .d) ks k u (a .planner) (a .a) _ 10 q rejected-places told-rejected))
 
 returns-3 : tie.Need-returns-3
 returns-3 c = λ ks k.
     let x = c .before .before .before .before in
     let f = x .before .before .before in
-    let e = f .before in
+    let e = f .before .before in
     let a = e .before .before .args in
-    let u = not-false (a .d .sound) (e .if1 .left) in
+    let u = sound e in
     let l = free-lowest (k .slots) (k .used u) (f .lowest-free .ensures) in
+    let q = sym (c .before .before .answer .given .1) ∙ x .decide .ensures ks (k .kept u) l in
     rw (c .bare3 .ensures)
-    (step-same (a .d) ks k _ _ (step-unplaced (a .d) ks k u (a .planner) (a .a) _ _ (sym (c .before .before .answer .given .1)
-    ∙ x .decide .ensures ks (k .kept u) l) (refused-places _) (told-refused _)))
+    (step-same (a .d) ks k _ _ (step-unplaced (a .d) ks k u (a .planner) (a .a) _ _ q (refused-places _) (told-refused _)))
 
 returns-4 : tie.Need-returns-4
 returns-4 c = λ ks k.
     let i = c .before .before in
-    let y = i .before in
-    let x = y .before .before .before .before .before .before in
+    let y = i .before .before .before in
+    let g = y .before .before in
+    let x = g .before .before in
     let f = x .before .before .before in
-    let e = f .before in
+    let e = f .before .before in
     let a = e .before .before .args in
-    let u = not-false (a .d .sound) (e .if1 .left) in
+    let u = sound e in
     let l = free-lowest (k .slots) (k .used u) (f .lowest-free .ensures) in
-    let q = sym (y .before .before .before .before .answer2 .given .1) ∙ x .decide .ensures ks (k .kept u) l in
-    step-placed (a .d) ks k u (a .planner) (a .a) _ _ _ _ l q (omega (arith, id-fits (e .before .before) .fits)) _ (y .before .before .booked .ensures) (i .insert .ensures) _ (c .with-slot .ensures)
+    let q = sym (g .answer2 .given .1) ∙ x .decide .ensures ks (k .kept u) l in
+    step-placed (a .d) ks k u (a .planner) (a .a) _ _ _ _ l q (omega (arith, id-fits (e .before .before) .fits)) _ (y .booked .ensures)
+    (i .insert .ensures) _ (c .with-slot .ensures)
 
 pub submit-spec : {M : Type 1} → statement M
 submit-spec =
@@ -152,7 +150,7 @@ submit-spec =
     enum-known-answer-2
     booked-requires
     insert-requires
-    add-t24
+    add-t25
     with-slot-requires
     returns-2
     returns-3

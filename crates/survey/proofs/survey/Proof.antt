@@ -8,14 +8,14 @@ use Rattle.survey.proofs.survey.Statement.{statement}
 use Rattle.survey.proofs.survey.Tie as tie
 
 abbrev Inv-loop : tie.InvT-loop
-Inv-loop columns rows clock live₀ tasks count₀ used₀ sound₀ i₀ live count used sound i =
-    Passed columns rows clock tasks live count used sound i
+Inv-loop on clock live₀ tasks count₀ used₀ sound₀ i₀ live count used sound i =
+    Passed on clock tasks live count used sound i
 
 abbrev μ-loop : tie.MeasureT-loop
-μ-loop columns rows clock live₀ tasks count₀ used₀ sound₀ i₀ live count used sound i = 64 - i
+μ-loop on clock live₀ tasks count₀ used₀ sound₀ i₀ live count used sound i = 64 - i
 
 loop-holds : tie.Need-loop-holds Inv-loop μ-loop
-loop-holds c = begin _ _ _ _ _ (c .pre) (search needs) (λ j h. bit-of-zero j)
+loop-holds c = begin _ _ _ _ (c .pre) (search needs) (λ j h. bit-of-zero j)
 
 mul-k : tie.Need-mul-k Inv-loop μ-loop
 mul-k c = search needs
@@ -85,10 +85,10 @@ loop-again c =
     let known = put .before .before .before .before .before .before .before in
     let l = known .before .before .before .before .loop in
     rw (put .put .ensures)
-    (pass _ _ _ _ (l .inv) (omega arith) (known .before .slot-sound .ensures) (known .is-live .ensures) (c .before .one-if .ensures .0) (c .used-with .ensures))
+    (pass _ _ _ (l .inv) (omega arith) (known .before .slot-sound .ensures) (known .is-live .ensures) (c .before .one-if .ensures .0) (c .used-with .ensures))
 
 returns : tie.Need-returns Inv-loop μ-loop
-returns c = end _ _ _ _ (c .before .loop .inv) (omega arith)
+returns c = end _ _ _ (c .before .loop .inv) (omega arith)
 
 pub survey-spec : {M : Type 1} → statement M
 survey-spec =

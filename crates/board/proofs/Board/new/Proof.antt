@@ -2,10 +2,10 @@
 use mathlib.Core.Path.{sym, ap, _∙_}
 use mathlib.Core.Bool.{not}
 use mathlib.Core.List.{[]}
-use Rattle.tasks.specs.Numbers.{deviceFits}
+use Rattle.tasks.specs.Numbers.{device, deviceFits}
 use Rattle.board.specs.Refusals.{refusal, refusedCreate}
 use Rattle.board.specs.Calls.{orRefused, created}
-use Rattle.board.proofs.Refusals.{refused-by, passed-over}
+use Rattle.refusals.proofs.First.{refused-by, passed-over}
 use borrow.Author.Needs.{needs}
 use Rattle.board.proofs.Board.new.Statement.{statement}
 use Rattle.board.proofs.Board.new.Tie as tie
@@ -20,7 +20,7 @@ returns : tie.Need-returns
 unfolding created refusedCreate refusal orRefused
 returns c =
     let a = c .before .before .before .args in
-    rw (passed-over 2 (not (deviceFits (a .columns) (a .rows))) [] (ap not (sym (c .before .before .device-fits .ensures) ∙ c .before .if1 .taken)), c .fresh .ensures)
+    rw (passed-over 2 (not (deviceFits (device (a .columns) (a .rows)))) [] (ap not (sym (c .before .before .device-fits .ensures) ∙ c .before .if1 .taken)), c .fresh .ensures)
 
 fresh-requires-2 : tie.Need-fresh-requires-2
 fresh-requires-2 c κs = search needs
@@ -29,7 +29,7 @@ returns-2 : tie.Need-returns-2
 unfolding created refusedCreate orRefused
 returns-2 c =
     let a = c .before .before .before .args in
-    rw (refused-by 2 (not (deviceFits (a .columns) (a .rows))) [] (ap not (sym (c .before .before .device-fits .ensures) ∙ c .before .if1 .left)), c .fresh2 .ensures)
+    rw (refused-by 2 (not (deviceFits (device (a .columns) (a .rows)))) [] (ap not (sym (c .before .before .device-fits .ensures) ∙ c .before .if1 .left)), c .fresh2 .ensures)
 
 pub new-spec : {M : Type 1} → statement M
 new-spec =

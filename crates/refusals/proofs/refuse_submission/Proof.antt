@@ -1,0 +1,102 @@
+-- `refusals::refuse_submission` meets its contract: behind each test that does not hold stand the tests that are left. Assumes nothing.
+use Prim.Native.Nat.{ℕ, _+_}
+use mathlib.Core.Path.{_≡_, sym, ap, _∙_}
+use mathlib.Core.Bool.{not}
+use mathlib.Core.List.{List}
+use lib.ListN.{drop}
+use borrow.Author.Tests.{lt-ltb, le-ltb, eq-eqb, ne-eqb}
+use Rattle.refusals.specs.Refusals.{Test, refusal, submitTests}
+use Rattle.refusals.proofs.First.{refused-by, passed-over, none-left}
+use borrow.Author.Needs.{needs}
+use Rattle.refusals.proofs.refuse_submission.Statement.{statement}
+use Rattle.refusals.proofs.refuse_submission.Tie as tie
+
+-- the tests of a call
+abbrev tests : tie.Start → List Test
+tests s = let a = s .args in submitTests (a .on) (a .clock) (a .planner) (a .a) (a .known) (a .full)
+
+-- the first k of them do not hold
+abbrev Behind : ℕ → tie.Start → Type 0
+Behind k s = refusal (tests s) ≡ refusal (drop k (tests s))
+
+behind-3 : (p : tie.Else1) → Behind 1 (p .before)
+behind-3 p = passed-over 3 _ _ (le-ltb 3 (p .before .args .planner) (p .if1 .left))
+
+behind-4 : (p : tie.Else2) → Behind 2 (p .before .before .before)
+behind-4 p = behind-3 (p .before .before) ∙ passed-over 4 _ _ (ne-eqb (p .before .before .before .args .a .id) 0 (p .if2 .left))
+
+behind-5 : (p : tie.Else3) → Behind 3 (p .before .before .before .before .before)
+behind-5 p = behind-4 (p .before .before) ∙ passed-over 5 _ _ (sym (ap not (p .before .size-fits .ensures)) ∙ p .if3 .left)
+
+behind-6 : (p : tie.Else4) → Behind 4 (p .before .before .before .before .before .before .before)
+behind-6 p = behind-5 (p .before .before) ∙ passed-over 6 _ _ (sym (ap not (p .before .time-fits .ensures)) ∙ p .if4 .left)
+
+behind-7 : (p : tie.Else5) → Behind 5 (p .before .before .before .before .before .before .before .before)
+behind-7 p = behind-6 (p .before) ∙ passed-over 7 _ _ (p .if5 .left)
+
+behind-8 : (p : tie.Else6)
+    → Behind 6 (p .before .before .before .before .before .before .before .before .before .before .before)
+behind-8 p =
+    let q = p .before .before .before in
+    let a = q .before .before .before .before .before .before .before .before .args in
+    behind-7 q ∙ passed-over 8 _ _ (le-ltb (a .a .d) (a .clock + a .a .e) (p .if6 .left))
+
+returns : tie.Need-returns
+returns c = sym (refused-by 3 _ _ (lt-ltb 3 (c .before .args .planner) (c .if1 .taken)))
+
+returns-2 : tie.Need-returns-2
+returns-2 c = sym (behind-3 (c .before .before) ∙ refused-by 4 _ _ (eq-eqb (c .before .before .before .args .a .id) 0 (c .if2 .taken)))
+
+size-fits-requires : tie.Need-size-fits-requires
+size-fits-requires c κs = search needs
+
+returns-3 : tie.Need-returns-3
+returns-3 c = sym (behind-4 (c .before .before) ∙ refused-by 5 _ _ (sym (ap not (c .before .size-fits .ensures)) ∙ c .if3 .taken))
+
+time-fits-requires : tie.Need-time-fits-requires
+time-fits-requires c κs = search needs
+
+returns-4 : tie.Need-returns-4
+returns-4 c = sym (behind-5 (c .before .before) ∙ refused-by 6 _ _ (sym (ap not (c .before .time-fits .ensures)) ∙ c .if4 .taken))
+
+returns-5 : tie.Need-returns-5
+returns-5 c = sym (behind-6 (c .before) ∙ refused-by 7 _ _ (c .if5 .taken))
+
+cast-if6 : tie.Need-cast-if6
+cast-if6 c = search needs
+
+cast-if6-2 : tie.Need-cast-if6-2
+cast-if6-2 c = search needs
+
+add-if6 : tie.Need-add-if6
+add-if6 c = search needs
+
+returns-6 : tie.Need-returns-6
+returns-6 c =
+    let q = c .before .before .before in
+    let a = q .before .before .before .before .before .before .before .before .args in
+    sym (behind-7 q ∙ refused-by 8 _ _ (lt-ltb (a .a .d) (a .clock + a .a .e) (c .if6 .taken)))
+
+returns-7 : tie.Need-returns-7
+returns-7 c = sym (behind-8 (c .before) ∙ refused-by 9 _ _ (c .if7 .taken))
+
+returns-8 : tie.Need-returns-8
+returns-8 c = sym (behind-8 (c .before) ∙ passed-over 9 _ _ (c .if7 .left) ∙ none-left)
+
+pub refuse-submission-spec : {M : Type 1} → statement M
+refuse-submission-spec =
+    tie.close
+    (tie.spec
+    returns
+    returns-2
+    size-fits-requires
+    returns-3
+    time-fits-requires
+    returns-4
+    returns-5
+    cast-if6
+    cast-if6-2
+    add-if6
+    returns-6
+    returns-7
+    returns-8)
