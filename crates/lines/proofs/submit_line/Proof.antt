@@ -102,9 +102,8 @@ returns-3 c =
     let n = r .read-numbers .ensures in
     let z = c .before .if2 .left in
     let planner = planned r .before .planner .ensures .0 in
-    let right =
-        submit-asks (word (read r)) (behind (read r)) planner (n .read z 0 (omega arith)) (n .read z 1 (omega arith)) (n .read z 2 (omega arith))
-        (n .read z 3 (omega arith)) (n .read z 4 (omega arith)) in
+    let m = n .read z in
+    let right = submit-asks (word (read r)) (behind (read r)) planner (m 0 (omega arith)) (m 1 (omega arith)) (m 2 (omega arith)) (m 3 (omega arith)) (m 4 (omega arith)) in
     submit-numbers _ _ (a-planner (planned r)) (said-right 2 2 (n .told) z right) ∙ by-word (read r)
 
 pub submit-line-spec : {M : Type 1} → statement M

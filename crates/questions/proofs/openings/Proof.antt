@@ -67,7 +67,8 @@ unfolding openingsAsked taskOf
 returns c =
     let n = c .before .before .before .read-numbers .ensures in
     let z = c .before .if1 .taken in
-    right-yes _ _ _ (n .told) z (rw (n .read z 0 (omega arith), n .read z 1 (omega arith), n .read z 2 (omega arith), n .read z 3 (omega arith)))
+    let m = n .read z in
+    right-yes _ _ _ (n .told) z (rw (m 0 (omega arith), m 1 (omega arith), m 2 (omega arith), m 3 (omega arith)))
 
 sub-read-numbers-2 : tie.Need-sub-read-numbers-2
 sub-read-numbers-2 c = search needs
@@ -114,10 +115,8 @@ returns-2 c =
     let e1 = c .before .before .before .before .before .before in
     let n = c .before .before .before .read-numbers2 .ensures in
     let z = c .before .if2 .taken in
-    right-yes _ _ _ (n .told) z
-    (rw
-    (n .read z 0 (omega arith), n .read z 1 (omega arith), n .read z 2 (omega arith), n .read z 3 (omega arith), n .read z 4 (omega arith),
-    n .read z 5 (omega arith)))
+    let m = n .read z in
+    right-yes _ _ _ (n .told) z (rw (m 0 (omega arith), m 1 (omega arith), m 2 (omega arith), m 3 (omega arith), m 4 (omega arith), m 5 (omega arith)))
     ∙ not-four e1 _
 
 slice-aggregate-read-numbers : tie.Need-slice-aggregate-read-numbers
@@ -162,10 +161,9 @@ returns-3 c =
     let e2 = c .before .before .before .before .before in
     let n = c .before .before .before .read-numbers3 .ensures in
     let z = c .before .if3 .taken in
+    let m = n .read z in
     right-yes _ _ _ (n .told) z
-    (rw
-    (n .read z 0 (omega arith), n .read z 1 (omega arith), n .read z 2 (omega arith), n .read z 3 (omega arith), n .read z 4 (omega arith),
-    n .read z 5 (omega arith), n .read z 6 (omega arith)))
+    (rw (m 0 (omega arith), m 1 (omega arith), m 2 (omega arith), m 3 (omega arith), m 4 (omega arith), m 5 (omega arith), m 6 (omega arith)))
     ∙ not-six e2 _ ∙ not-four (else1 e2) _
 
 returns-4 : tie.Need-returns-4

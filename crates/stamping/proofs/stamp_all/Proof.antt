@@ -22,8 +22,8 @@ use prog.Wp.{Heap, Out, Env, afterSeq, afterBlock, afterTurn, Calls, Loops, Wp, 
 use ghost.Atoms.{Atoms, sem}
 use contract.Monad.{Fun, fact}
 use contract.Running.{givenOf, tables, tablesOf}
-use types.Kit.{Given, Item, ‵, raw, _⊛_, some, later, ⋆, anyQ, atRet, _$_, _∵_, !}
-use types.Kit.{qed, by, move, keep, drop, use1, split, join, pick, rewrite, fsplit, fjoin, feqI, suffices, frame, await, done}
+use types.Kit.{Given, Item, ‵, raw, _⊛_, some, later, ⋆, anyQ, atRet, _$_, _∵_, !, qed}
+use types.Kit.{by, move, keep, drop, use1, split, join, pick, rewrite, fsplit, fjoin, feqI, suffices, frame, await, done}
 use types.Run.{look, look-raw, init, store, store-raw, forget, stop, hop, fld, from, load, lit, unit-lit, and-then, no-more, of-opd, bin}
 use types.Run.{assigns, assigns-last, land, stays, leaves-loop, returns, enter, alloc1, alloc0, params1, pass1, pass0, free1, free0, exec}
 use types.Part.{whole, sub, look-in}

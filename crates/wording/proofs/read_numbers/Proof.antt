@@ -79,8 +79,8 @@ loop-again c =
     let s = l .before .before .before in
     let n = wordOf t .next in
     let k = t .read-number in
-    let f : fits (getD (s .args .mosts .now) (l .loop .i) 0) (part (n .result .from) (n .result .to) (s .args .text .now)) ≡ true =
-        sym (k .ensures .0) ∙ not-false _ (c .if1 .left) in
+    let word = part (n .result .from) (n .result .to) (s .args .text .now) in
+    let f : fits (getD (s .args .mosts .now) (l .loop .i) 0) word ≡ true = sym (k .ensures .0) ∙ not-false _ (c .if1 .left) in
     sofar-one (l .loop .inv) (n .ensures) (omega arith) (s .pre .1) f (k .ensures .1 ∙ rw f)
 
 next-requires-2 : tie.Need-next-requires-2 Inv-loop μ-loop
