@@ -1,5 +1,5 @@
 -- `openings::list` meets its contract: at each pair of the walk, all that comes after it is still to be written. Assumes nothing.
-use Prim.Native.Nat.{_+_, _-_, _*_, _/_}
+use Prim.Native.Nat.{_+_, _-_, _*_, _/_, _≤_}
 use mathlib.Core.Path.{_≡_, refl}
 use native.Mathlib.Omega.{arith}
 use lib.ListN.{length}
@@ -26,6 +26,16 @@ startOf at = at .before .before .before .before .before .before .before .before 
 
 buffer-fits : (s : tie.Start Inv-walk μ-walk) → Fits w64 (length (s .args .buffer .now))
 buffer-fits s = search needs
+
+-- where the end of a free run was found, behind its beginning: the task's columns end by it
+abbrev End : Type 0
+End = tie.After-next-set Inv-walk μ-walk
+
+abbrev firstOf : End → tie.After-first-free Inv-walk μ-walk
+firstOf n = n .before .before .before
+
+run-fits : (n : End) → firstOf n .first-free .result + startOf (firstOf n .before) .args .q .w ≤ n .next-set .result
+run-fits n = run-end (firstOf n .first-free .ensures) (omega arith) (n .next-set .ensures)
 
 sub-last : tie.Need-sub-last Inv-walk μ-walk
 sub-last c = search needs
@@ -77,11 +87,7 @@ next-set-requires c κs =
     (omega arith, omega (arith, g .clear (omega arith) .fits))
 
 sub-stop : tie.Need-sub-stop Inv-walk μ-walk
-sub-stop c =
-    let n = c .before in
-    let g = n .before .before .before .first-free .ensures in
-    let e = run-end g (omega arith) (n .next-set .ensures) in
-    omega (arith, e)
+sub-stop c = omega (arith, run-fits (c .before))
 
 add-stop : tie.Need-add-stop Inv-walk μ-walk
 add-stop c = search needs
@@ -90,11 +96,7 @@ sub-stop-2 : tie.Need-sub-stop-2 Inv-walk μ-walk
 sub-stop-2 c = search needs
 
 stop-requires : tie.Need-stop-requires Inv-walk μ-walk
-stop-requires c κs =
-    let n = c .before in
-    let g = n .before .before .before .first-free .ensures in
-    let e = run-end g (omega arith) (n .next-set .ensures) in
-    omega (arith, e)
+stop-requires c κs = omega (arith, run-fits (c .before))
 
 mul-put-run : tie.Need-mul-put-run Inv-walk μ-walk
 mul-put-run c =
@@ -104,10 +106,8 @@ mul-put-run c =
 put-run-requires : tie.Need-put-run-requires Inv-walk μ-walk
 put-run-requires c κs =
     let n = c .before .before .before in
-    let first = n .before .before .before in
-    let at = first .before in
-    let g = first .first-free .ensures in
-    let e = run-end g (omega arith) (n .next-set .ensures) in
+    let at = firstOf n .before in
+    let e = run-fits n in
     (omega (arith, c .before .stop .ensures), omega (arith, c .before .stop .ensures, at .walk .inv .0, same-room (at .walk .inv .1 .written)))
 
 sub-n : tie.Need-sub-n Inv-walk μ-walk
@@ -119,10 +119,8 @@ cast-n c = search needs
 add-n : tie.Need-add-n Inv-walk μ-walk
 add-n c =
     let n = c .before .before .before .before .before .before in
-    let first = n .before .before .before in
-    let at = first .before in
-    let g = first .first-free .ensures in
-    let e = run-end g (omega arith) (n .next-set .ensures) in
+    let at = firstOf n .before in
+    let e = run-fits n in
     let to = c .before .before .before .before .stop .ensures in
     omega (arith, to, at .walk .inv .0, buffer-fits (startOf at))
 
@@ -132,10 +130,10 @@ sub-column c = search needs
 walk-less : tie.Need-walk-less Inv-walk μ-walk
 walk-less c =
     let n = c .before .before .before .before .before .before in
-    let first = n .before .before .before in
+    let first = firstOf n in
     let at = first .before in
     let g = first .first-free .ensures in
-    let e = run-end g (omega arith) (n .next-set .ensures) in
+    let e = run-fits n in
     let to = c .before .before .before .before .stop .ensures in
     let w = startOf at .pre .1 .wide in
     further _ _ _ _ (omega (arith, to, g .after (omega arith))) (omega (arith, to, e, n .next-set .ensures .high, w))
@@ -143,10 +141,10 @@ walk-less c =
 walk-again : tie.Need-walk-again Inv-walk μ-walk
 walk-again c =
     let n = c .before .before .before .before .before .before in
-    let first = n .before .before .before in
+    let first = firstOf n in
     let at = first .before in
     let g = first .first-free .ensures in
-    let e = run-end g (omega arith) (n .next-set .ensures) in
+    let e = run-fits n in
     let st = startOf at in
     let to = c .before .before .before .before .stop .ensures in (
       at .walk .inv .0,
