@@ -17,7 +17,8 @@ argument-none l [] at h = record { stored = refl; place = refl }
 argument-none l (b ∷ bs) at h = absurd (omega arith)
 
 -- one byte more
-pub guarded-more : (l bytes : List ℕ) (at i : ℕ) → i < length bytes → set (sets l at (take i (map guarded bytes))) (at + i) (guarded (getD bytes i 0)) ≡ sets l at (take (i + 1) (map guarded bytes))
+pub guarded-more : (l bytes : List ℕ) (at i : ℕ) → i < length bytes
+    → set (sets l at (take i (map guarded bytes))) (at + i) (guarded (getD bytes i 0)) ≡ sets l at (take (i + 1) (map guarded bytes))
 guarded-more l bytes at i h =
     ap (set (sets l at (take i (map guarded bytes))) (at + i)) (sym (List·getD-map guarded bytes i 0)) ∙ bytes-more l (map guarded bytes) at i (omega (arith, length-map bytes guarded))
 
@@ -27,7 +28,8 @@ unfolding argumentText
 guarded-all [] h = absurd (omega arith)
 guarded-all (b ∷ bs) h = refl
 
-pub argument-some : {m : List ℕ} {i : ℕ} (l bytes : List ℕ) (at : ℕ) → 0 < length bytes → i ≡ length bytes → m ≡ sets l at (take i (map guarded bytes)) → Put l at (argumentText bytes) m (at + i)
+pub argument-some : {m : List ℕ} {i : ℕ} (l bytes : List ℕ) (at : ℕ) → 0 < length bytes → i ≡ length bytes → m ≡ sets l at (take i (map guarded bytes))
+    → Put l at (argumentText bytes) m (at + i)
 argument-some {m} {i} l bytes at h e f =
     let size : length (map guarded bytes) ≡ i = length-map bytes guarded ∙ sym e in
     let all : take i (map guarded bytes) ≡ argumentText bytes = take-all i (map guarded bytes) (omega arith) ∙ guarded-all bytes h in

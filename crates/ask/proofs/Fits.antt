@@ -22,7 +22,10 @@ listed-fits : (b : Board) (words : ℕ) → listed b words .count * 3 ≤ words
 unfolding listed orRefused refusedHorizon
 listed-fits b words = go (refusedHorizon b words) refl
   where
-    go : (k : ℕ) → refusedHorizon b words ≡ k → (orRefused {A = Listed} k (λ j. record { number = j; count = 0; board = b }) (record { number = 0; count = length (horizonOf b); board = b })) .count * 3 ≤ words
+    answer : ℕ → Listed
+    answer k = orRefused {A = Listed} k (λ j. record { number = j; count = 0; board = b }) (record { number = 0; count = length (horizonOf b); board = b })
+
+    go : (k : ℕ) → refusedHorizon b words ≡ k → answer k .count * 3 ≤ words
     go zero e =
         let rest = none-holds 1 (not (soundBoard b)) (horizonTests (length (horizonOf b)) words) (λ z. omega arith) e .1 in
         let fits = none-holds 17 (ltb words (3 * length (horizonOf b))) [] (λ z. omega arith) rest .0 in
@@ -37,7 +40,13 @@ opened-fits : (b : Board) (a : Submission) (s c words : ℕ) → opened b a s c 
 unfolding opened orRefused
 opened-fits b a s c words = go (refusedOpenings b a)
   where
-    go : (k : ℕ) → (orRefused {A = Opened} k (λ j. record { number = j; count = 0; more = false; board = b }) (record { number = 0; count = length (take (words / 2) (remaining b a s c)); more = ltb (words / 2) (length (remaining b a s c)); board = b })) .count * 2 ≤ words
+    all : Opened
+    all = record { number = 0; count = length (take (words / 2) (remaining b a s c)); more = ltb (words / 2) (length (remaining b a s c)); board = b }
+
+    answer : ℕ → Opened
+    answer k = orRefused {A = Opened} k (λ j. record { number = j; count = 0; more = false; board = b }) all
+
+    go : (k : ℕ) → answer k .count * 2 ≤ words
     go zero = omega (arith, length-take (words / 2) (remaining b a s c))
     go (suc k) = omega arith
 

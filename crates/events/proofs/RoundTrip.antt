@@ -92,8 +92,9 @@ new-board-again l h k = rw (field-bytes 0 2 l h (omega arith), field-bytes 2 2 l
 submit-again : body-again submitIn 17
 unfolding body-again bodyOf
 submit-again l h k =
-    rw (field-bytes 0 1 l h (omega arith), field-bytes 1 4 l h (omega arith), field-bytes 5 2 l h (omega arith), field-bytes 7 2 l h (omega arith), field-bytes 9 4 l h (omega arith), field-bytes 13 4 l h (omega arith))
-    (rw (beside 0 1 4 l, beside 0 5 2 l, beside 0 7 2 l, beside 0 9 4 l) (beside 0 13 4 l))
+    rw (field-bytes 0 1 l h (omega arith), field-bytes 1 4 l h (omega arith), field-bytes 5 2 l h (omega arith))
+    (rw (field-bytes 7 2 l h (omega arith), field-bytes 9 4 l h (omega arith), field-bytes 13 4 l h (omega arith))
+    (rw (beside 0 1 4 l, beside 0 5 2 l, beside 0 7 2 l, beside 0 9 4 l) (beside 0 13 4 l)))
 
 clock-again : body-again clockIn 4
 unfolding body-again bodyOf

@@ -9,12 +9,14 @@ use lib.ListN.{length, take, getD}
 use lib.Seq.{take-take, take-length}
 use Rattle.lists.specs.Lists.{indexOf, lastOr}
 use Rattle.events.specs.declared.Event.{Event}
+use Rattle.events.specs.declared.Event.the-variants.{Submit}
 use Rattle.text.specs.Text.{value}
 use Rattle.wording.specs.declared.Sort.the-variants.{Hash}
-use Rattle.wording.specs.Wording.{stopsAt, same, empty, fits, wrong}
+use Rattle.wording.specs.Wording.{stopsAt, same, empty, fits, wrong, nth}
 use Rattle.lines.specs.declared.Line.{Line}
 use Rattle.lines.specs.declared.Line.the-variants.{Nothing, Says, Wrong}
-use Rattle.lines.specs.Lines.{lessReturn, bare, plannerOf, saidOr, asks, submitBehind, boardLine, submitLine, clockLine, withdrawLine, saidBy, referenceName, horizonName, stuffingName, fullName, boardName, submitName, clockName, withdrawName}
+use Rattle.lines.specs.Lines.{lessReturn, bare, plannerOf, saidOr, asks, submitBehind, boardLine, submitLine, clockLine, withdrawLine, saidBy}
+use Rattle.lines.specs.Lines.{referenceName, horizonName, stuffingName, fullName, boardName, submitName, clockName, withdrawName}
 
 -- a word that is wrong, and none
 pub said-wrong : (kind n : ℕ) (event : Event) {r w : ℕ} → r ≡ w → (r ≡ 0 → ⊥) → Wrong kind (r + n) ≡ saidOr kind n w event
@@ -43,11 +45,13 @@ module _ (p : List ℕ) where
   unfolding plannerOf
   planner-3 n0 n1 n2 y = rw (n0, n1, n2, y)
 
-  pub planner-4 : same p referenceName ≡ false → same p horizonName ≡ false → same p stuffingName ≡ false → same p fullName ≡ false → fits 255 p ≡ true → value 0 p ≡ plannerOf p
+  pub planner-4 : same p referenceName ≡ false → same p horizonName ≡ false → same p stuffingName ≡ false → same p fullName ≡ false → fits 255 p ≡ true
+      → value 0 p ≡ plannerOf p
   unfolding plannerOf
   planner-4 n0 n1 n2 n3 y = rw (n0, n1, n2, n3, y)
 
-  pub planner-5 : same p referenceName ≡ false → same p horizonName ≡ false → same p stuffingName ≡ false → same p fullName ≡ false → fits 255 p ≡ false → _≡_ {A = ℕ} 256 (plannerOf p)
+  pub planner-5 : same p referenceName ≡ false → same p horizonName ≡ false → same p stuffingName ≡ false → same p fullName ≡ false → fits 255 p ≡ false
+      → _≡_ {A = ℕ} 256 (plannerOf p)
   unfolding plannerOf
   planner-5 n0 n1 n2 n3 y = rw (n0, n1, n2, n3, y)
 
@@ -69,11 +73,13 @@ module _ (name : List ℕ) (ws : List (List ℕ)) where
   unfolding saidBy
   said-clock e n0 n1 y = rw (e, n0, n1, y)
 
-  pub said-withdraw : empty name ≡ false → same name boardName ≡ false → same name submitName ≡ false → same name clockName ≡ false → same name withdrawName ≡ true → withdrawLine ws ≡ saidBy name ws
+  pub said-withdraw : empty name ≡ false → same name boardName ≡ false → same name submitName ≡ false → same name clockName ≡ false → same name withdrawName ≡ true
+      → withdrawLine ws ≡ saidBy name ws
   unfolding saidBy
   said-withdraw e n0 n1 n2 y = rw (e, n0, n1, n2, y)
 
-  pub said-other : empty name ≡ false → same name boardName ≡ false → same name submitName ≡ false → same name clockName ≡ false → same name withdrawName ≡ false → Wrong 0 1 ≡ saidBy name ws
+  pub said-other : empty name ≡ false → same name boardName ≡ false → same name submitName ≡ false → same name clockName ≡ false → same name withdrawName ≡ false
+      → Wrong 0 1 ≡ saidBy name ws
   unfolding saidBy
   said-other e n0 n1 n2 n3 = rw (e, n0, n1, n2, n3)
 
@@ -87,6 +93,11 @@ module _ (p : List ℕ) (ws : List (List ℕ)) where
       → line ≡ saidOr 2 2 (wrong 1 (4294967295 ∷ 65535 ∷ 65535 ∷ 4294967295 ∷ 4294967295 ∷ []) ws) (asks (plannerOf p) ws) → line ≡ submitBehind p ws
   unfolding submitBehind
   submit-numbers n e = rw (ne-eqb (plannerOf p) 256 n) e
+
+  pub submit-asks : {planner id w h e d : ℕ} → planner ≡ plannerOf p → id ≡ nth 0 ws → w ≡ nth 1 ws → h ≡ nth 2 ws → e ≡ nth 3 ws → d ≡ nth 4 ws
+      → Submit planner (record { id = id; e = e; d = d; w = w; h = h }) ≡ asks (plannerOf p) ws
+  unfolding asks
+  submit-asks pl a b c k l = rw (pl, a, b, c, k, l)
 
 -- A CARRIAGE RETURN at the end
 last-at : (d : ℕ) (l : List ℕ) → 0 < length l → lastOr d l ≡ getD l (length l - 1) 0

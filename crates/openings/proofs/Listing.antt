@@ -97,8 +97,8 @@ module _ (q : Window) (n : ℕ) (live : List ℕ) (a b : ℕ) (lent : List ℕ) 
       written = x;
     }
 
-    pub list-begin : {t c many : ℕ} → From t c → t + q .e ≤ q .d → (words : List ℕ) (until : ℕ) → Held (q .width) t (q .e) ts words → After live n t many → Unchanged live n t (q .e) until
-        → At t c many words until lent 0
+    pub list-begin : {t c many : ℕ} → From t c → t + q .e ≤ q .d → (words : List ℕ) (until : ℕ) → Held (q .width) t (q .e) ts words
+        → After live n t many → Unchanged live n t (q .e) until → At t c many words until lent 0
     list-begin {t} {c} p k words until h f u = fresh (omega arith) k (inside (decLt a (q .clock))) h f u (write-on (write-none (left a b) lent) (begin p))
       where
         inside : Dec (a < q .clock) → c ≤ 256
@@ -114,7 +114,8 @@ module _ (q : Window) (n : ℕ) (live : List ℕ) (a b : ℕ) (lent : List ℕ) 
 
       module _ {x : ℕ} (g : FirstFree words c (q .w) x) where
         -- A RUN WRITTEN
-        pub list-run : 0 < x → {end to : ℕ} → Least (column words) x 257 end → x < to → to + q .w ≤ end + 1 → {after : List ℕ} → after ≡ sets buffer (k * 2) (pairWords (runAt t x (to - x)))
+        pub list-run : 0 < x → {end to : ℕ} → Least (column words) x 257 end → x < to → to + q .w ≤ end + 1
+            → {after : List ℕ} → after ≡ sets buffer (k * 2) (pairWords (runAt t x (to - x)))
             → {j : ℕ} → j ≡ k + (to - x) → j * 2 ≤ length lent → At t (to - 1) many words until after j
         list-run z {end} {to} y p u {after} v {j} h room = record {
           from-now = m .from-now;

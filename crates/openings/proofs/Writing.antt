@@ -37,8 +37,8 @@ module _ {all : List Place} {l buffer : List ℕ} {n : ℕ} {rest : List Place} 
   write-on e = record { done = o .done; parts = rw (← e) (o .parts); words = o .words; count = o .count; room = o .room }
 
   -- A RUN MORE
-  pub write-run : (ps : List Place) {more : List Place} {after : List ℕ} {m : ℕ} → rest ≡ ps ++ more → after ≡ sets buffer (n * 2) (pairWords ps) → m ≡ n + length ps → m * 2 ≤ length l
-      → Written all l after m more
+  pub write-run : (ps : List Place) {more : List Place} {after : List ℕ} {m : ℕ} → rest ≡ ps ++ more → after ≡ sets buffer (n * 2) (pairWords ps)
+      → m ≡ n + length ps → m * 2 ≤ length l → Written all l after m more
   write-run ps {more} {after} {m} e s c h = record {
     done = o .done ++ ps;
     parts = o .parts ∙ ap (λ x. o .done ++ x) e ∙ sym (append-assoc (o .done) ps more);

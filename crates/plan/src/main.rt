@@ -30,11 +30,11 @@ fn put_last(words: &mut [u32], at: usize, number: u32, kind: u8, answer: u8)
     session::put_line(words, at, number, kind, answer, 0, 0, 0);
 }
 
-// Writes the lines that wait; where that fails, says so on standard error.
+// Writes the lines that wait, "event number from 1, kind, answer, column, start, finish"; where that fails, says so on standard error.
 fn flush(text: &mut [u8], words: &[u32], lines: usize) -> bool
     requires { ⌜ (lines * 66 ≤ length (now text)) × (lines * 6 ≤ length (now words)) ⌝ }
 {
-    let used = text::put_rows(text, words, lines);
+    let used = text::put_table(text, words, lines, 6);
     let done = io::write_all(STDOUT_FILENO, &text[0..used]);
     if !done {
         os::fail(b"plan: cannot write");

@@ -1,4 +1,4 @@
--- THE THREE DEMANDS, theorem by theorem, in their words. Each call's promise is one equation to the book (`r ≡ submitted self planner a`, and so on: docs/PROMISES.md), so that what is said here of the book is said of the calls. Assumes nothing.
+-- THE THREE DEMANDS, theorem by theorem. Each call's promise is one equation to the book (docs/PROMISES.md): what is said here of the book is said of the calls. Assumes nothing.
 use Prim.Native.Nat.{ℕ, suc, _/_, _≤_, _<_}
 use mathlib.Core.Path.{_≡_}
 use mathlib.Core.Logic.{_⊎_}
@@ -64,13 +64,16 @@ demand-1-writer = refused-stays
 pub demand-2-stuffing : (W now : ℕ) (ts : List Task) (a : Submission) {p : Place} → stuffing W now ts a ≡ some p → Answers (candidates W now ts a) (visited W now ts a (map finish ts)) p
 demand-2-stuffing W now ts a e = stuffing-answers W now ts a e
 
-pub demand-2-stuffing-rejects : (W now : ℕ) (ts : List Task) (a : Submission) → stuffing W now ts a ≡ none → (i : ℕ) → i ∈ visited W now ts a (map finish ts) → candidates W now ts a i ≡ []
+pub demand-2-stuffing-rejects : (W now : ℕ) (ts : List Task) (a : Submission) → stuffing W now ts a ≡ none
+    → (i : ℕ) → i ∈ visited W now ts a (map finish ts) → candidates W now ts a i ≡ []
 demand-2-stuffing-rejects W now ts a e = stuffing-rejects W now ts a e
 
-pub demand-2-horizon : (W now : ℕ) (ts : List Task) (a : Submission) {p : Place} → horizon W now ts a ≡ some p → Answers (releasedEdges W now ts a) (visited W now ts a (map (release now ts) (columns W))) p
+pub demand-2-horizon : (W now : ℕ) (ts : List Task) (a : Submission) {p : Place} → horizon W now ts a ≡ some p
+    → Answers (releasedEdges W now ts a) (visited W now ts a (map (release now ts) (columns W))) p
 demand-2-horizon W now ts a e = horizon-answers W now ts a e
 
-pub demand-2-horizon-rejects : (W now : ℕ) (ts : List Task) (a : Submission) → horizon W now ts a ≡ none → (i : ℕ) → i ∈ visited W now ts a (map (release now ts) (columns W)) → releasedEdges W now ts a i ≡ []
+pub demand-2-horizon-rejects : (W now : ℕ) (ts : List Task) (a : Submission) → horizon W now ts a ≡ none
+    → (i : ℕ) → i ∈ visited W now ts a (map (release now ts) (columns W)) → releasedEdges W now ts a i ≡ []
 demand-2-horizon-rejects W now ts a e = horizon-rejects W now ts a e
 
 -- "booking, clock, withdrawal .. follow its rules": a live task keeps its slot, columns and start under each of them
@@ -112,14 +115,16 @@ module _ (b : Board) (a : Submission) (s : SoundBoard b) (k : Reachable b a) whe
   demand-3-none-missed = none-missed b a s k
 
   -- "asking on reaches its end"
-  pub demand-3-asking-on : (n : ℕ) (buffer : List ℕ) → 2 ≤ length buffer → length (openings (b .device .columns) (b .now) (liveOf b) a) ≤ n → asking b a n (pair 0 0) buffer ≡ openings (b .device .columns) (b .now) (liveOf b) a
+  pub demand-3-asking-on : (n : ℕ) (buffer : List ℕ) → 2 ≤ length buffer → length (openings (b .device .columns) (b .now) (liveOf b) a) ≤ n
+      → asking b a n (pair 0 0) buffer ≡ openings (b .device .columns) (b .now) (liveOf b) a
   demand-3-asking-on = asking-from-none b a s k
 
   -- "Full takes the first and rejects exactly when there is none"
   pub demand-3-full : (buffer : List ℕ) → 2 ≤ length buffer → refusedSubmit b 3 a ≡ 0 → submitted b 3 a ≡ taken b a (head? (given b a (pair 0 0) buffer))
   demand-3-full = full-takes-given b a s k
 
-pub demand-3-full-first : (b : Board) (a : Submission) {c s f : ℕ} → submitted b 3 a .answer ≡ Placed c s f → (q : Place) → Opening (b .device .columns) (b .now) (liveOf b) a q → (q ≡ pair s c) ⊎ Before (pair s c) q
+pub demand-3-full-first : (b : Board) (a : Submission) {c s f : ℕ} → submitted b 3 a .answer ≡ Placed c s f
+    → (q : Place) → Opening (b .device .columns) (b .now) (liveOf b) a q → (q ≡ pair s c) ⊎ Before (pair s c) q
 demand-3-full-first b a e = full-placed b a e
 
 pub demand-3-full-rejects : (b : Board) (a : Submission) → submitted b 3 a .answer ≡ Rejected → (q : Place) → Opening (b .device .columns) (b .now) (liveOf b) a q → ⊥

@@ -133,7 +133,11 @@ clock-word = record { some = omega arith; clear = (refl, refl, (refl, refl, (ref
 
 withdraw-word : Worded withdrawName
 unfolding Clear Solid
-withdraw-word = record { some = omega arith; clear = (refl, refl, (refl, refl, (refl, refl, (refl, refl, (refl, refl, (refl, refl, (refl, refl, (refl, refl, tt)))))))); solid = (refl, (refl, (refl, (refl, (refl, (refl, (refl, (refl, tt)))))))) }
+withdraw-word = record {
+  some = omega arith;
+  clear = (refl, refl, (refl, refl, (refl, refl, (refl, refl, (refl, refl, (refl, refl, (refl, refl, (refl, refl, tt))))))));
+  solid = (refl, (refl, (refl, (refl, (refl, (refl, (refl, (refl, tt))))))));
+}
 
 -- A LINE FOR AN EVENT says that event
 pub says-event : (v : Event) → Wide v → says (joined (wordsOf v)) ≡ Says v

@@ -3,7 +3,6 @@ use mathlib.Core.Path.{_≡_, refl}
 use mathlib.Core.List.{[], _∷_, _++_}
 use Prim.Native.Nat.{_^_}
 use lib.Dec.{T}
-use Rattle.board.specs.Calls.{zeroBoard}
 use Rattle.events.specs.declared.Event.the-variants.{NewBoard, Clock}
 use Rattle.session.specs.Recording.{mostEvents}
 use Rattle.promises.specs.ProvingSet.{line}
@@ -25,9 +24,41 @@ use Rattle.promises.specs.Cases.{numbers, afterEvent, play, same, sameAl
 use Rattle.promises.specs.Edges.{refusedList, edgeSet, filled}
 use Rattle.promises.specs.ProvingSet.{played, tableWith, withClocks, firstSix, seven, listing, provingSet, twoRuns, waitingAhead, tellingSet, listingEvents, listingLines, recording}
 
--- every definition of the book, opened so that it computes
+-- every definition of the book, opened so that it computes, group by group
+open-lists : Unit {0}
+unfolding keep some? all? pairwise? head? orElse lastOr indexOf putFirst insertBy sortBy each firstOf range highest addTo rising isOpen pairsIn openingsIn after openingsAfter askedOn
+open-lists = tt
+
+open-planners : Unit {0}
+unfolding meets covers holds phaseAt stamped zeros booked join runs bestFit ways full free release visited clearOfWaiting candidates releasedEdges reference horizon stuffing planned
+open-planners = tt
+
+open-lookups : Unit {0}
+unfolding taskSound slotSound together sound named known withBooked agedTo allAgedTo withoutNamed begunNamed horizonList stripWords busyColumns
+open-lookups = tt
+
+open-board : Unit {0}
+unfolding told orRefused freshBoard created withTask taken answered submitted boardAt clocked withdrawn remaining pairWords opened openedBuffer listed listedBuffer counted
+open-board = tt
+
+open-refusals : Unit {0}
+unfolding refusal refusedCreate refusedSubmit refusedInstant refusedWithdraw refusedOpenings refusedHorizon
+open-refusals = tt
+
+open-records : Unit {0}
+unfolding bytesOf numberOf kindOf bodyOf recordOf wholeOr15 readFrom written writtenBuffer toldRead toldWritten lineOf outcome linesFrom planLines
+open-records = tt
+
+open-cases : Unit {0}
+unfolding numbers afterEvent play same sameAll passes at only
+open-cases = tt
+
+open-sets : Unit {0}
+unfolding refusedList edgeSet filled played tableWith withClocks firstSix seven listing provingSet twoRuns waitingAhead tellingSet listingEvents listingLines recording
+open-sets = tt
+
 open-book : Unit {0}
-unfolding keep some? all? pairwise? head? orElse lastOr indexOf putFirst insertBy sortBy each firstOf range highest addTo rising isOpen pairsIn openingsIn after openingsAfter askedOn meets covers holds phaseAt stamped zeros booked join runs bestFit ways full free release visited clearOfWaiting candidates releasedEdges reference horizon stuffing planned taskSound slotSound together sound named known withBooked agedTo allAgedTo withoutNamed begunNamed horizonList stripWords busyColumns told orRefused freshBoard created withTask taken answered submitted boardAt clocked withdrawn remaining pairWords opened openedBuffer listed listedBuffer counted refusal refusedCreate refusedSubmit refusedInstant refusedWithdraw refusedOpenings refusedHorizon bytesOf numberOf kindOf bodyOf recordOf wholeOr15 readFrom written writtenBuffer toldRead toldWritten lineOf outcome linesFrom planLines numbers afterEvent play same sameAll passes at only refusedList edgeSet filled played tableWith withClocks firstSix seven listing provingSet twoRuns waitingAhead tellingSet listingEvents listingLines recording
+unfolding open-lists open-planners open-lookups open-board open-refusals open-records open-cases open-sets
 open-book = tt
 
 -- CASES 1 TO 9 OF DOCUMENT 01

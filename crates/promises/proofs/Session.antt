@@ -1,4 +1,4 @@
--- OVER A SESSION: the board stays sound or is the board of zeros; what was promised never shares a column at a tick, stands where it was promised until its finish, and ends by its deadline. Assumes nothing.
+-- OVER A SESSION: the board is sound or of zeros; no two promises share a column at a tick, each stands until its finish, and ends by its deadline. Assumes nothing.
 use Prim.Native.Nat.{ℕ, zero, suc, _+_, _≤_, _<_}
 use mathlib.Core.Path.{_≡_, refl, sym, ap, _∙_, subst}
 use mathlib.Core.Logic.{_⊎_, inl, inr}
@@ -30,7 +30,8 @@ use Rattle.board.specs.Refusals.{liveOf, soundBoard, refusedInstant, refusedWit
 use Rattle.board.specs.Calls.{orRefused, withTasks, zeroBoard, created, submitted, boardAt, clocked, withdrawn}
 use Rattle.board.specs.Standing.{submittedBooked}
 use Rattle.refusals.proofs.First.{none-holds}
-use Rattle.board.proofs.Kept.{SoundBoard, submitted-sound, clocked-stays-sound, withdrawn-stays-sound, created-sound, zero-unsound, instant-passable, clocked-done, refused-clock-same, refused-withdraw-same}
+use Rattle.board.proofs.Kept.{SoundBoard, submitted-sound, clocked-stays-sound, withdrawn-stays-sound, created-sound, zero-unsound}
+use Rattle.board.proofs.Kept.{instant-passable, clocked-done, refused-clock-same, refused-withdraw-same}
 use Rattle.board.proofs.Submit.{submit-unsound}
 use Rattle.board.proofs.Tested.{clocked-unsound, withdrawn-unsound}
 use Rattle.board.proofs.Placed.{placed-opens, BooksAt, placed-books, unplaced-same}
@@ -88,16 +89,19 @@ pub record Honest (b : Board) (ks : List Task) : Type 0 where
   pub stands : (k : Task) → k ∈ ks → (finish k ≤ b .now) ⊎ (stamped (b .now) k ∈ liveOf b)
 
 -- a promise after the clock has moved
-after-clock : (b : Board) (i : ℕ) (k : Task) → (finish k ≤ b .now) ⊎ (stamped (b .now) k ∈ liveOf b) → b .now ≤ i → Dec (finish k ≤ i) → (finish k ≤ boardAt b i .now) ⊎ (stamped (boardAt b i .now) k ∈ liveOf (boardAt b i))
+after-clock : (b : Board) (i : ℕ) (k : Task) → (finish k ≤ b .now) ⊎ (stamped (b .now) k ∈ liveOf b) → b .now ≤ i → Dec (finish k ≤ i)
+    → (finish k ≤ boardAt b i .now) ⊎ (stamped (boardAt b i .now) k ∈ liveOf (boardAt b i))
 unfolding boardAt stamped
 after-clock b i k (inl h) q d = inl (omega arith)
 after-clock b i k (inr m) q (yes d) = inl d
 after-clock b i k (inr m) q (no d) =
     inr (subst (λ l. stamped i k ∈ l) (sym (live-aged i (b .tasks)))
-    (subst (λ y. y ∈ map (stamped i) (keep (λ x. ltb i (finish x)) (liveOf b))) (twice i (b .now) k) (in-map (stamped i) (in-keep (λ x. ltb i (finish x)) m (lt→ltb i (finish k) (omega arith))))))
+    (subst (λ y. y ∈ map (stamped i) (keep (λ x. ltb i (finish x)) (liveOf b))) (twice i (b .now) k)
+    (in-map (stamped i) (in-keep (λ x. ltb i (finish x)) m (lt→ltb i (finish k) (omega arith))))))
 
 -- a promise more
-after-place : (b : Board) (ks : List Task) → Honest b ks → SoundBoard b → (n : ℕ) (a : Submission) → a .id ≤ 4294967295 → (c t f : ℕ) → submitted b n a .answer ≡ Placed c t f → Honest (submitted b n a .board) (booked (b .now) a t c ∷ ks)
+after-place : (b : Board) (ks : List Task) → Honest b ks → SoundBoard b → (n : ℕ) (a : Submission) → a .id ≤ 4294967295 → (c t f : ℕ)
+    → submitted b n a .answer ≡ Placed c t f → Honest (submitted b n a .board) (booked (b .now) a t c ∷ ks)
 unfolding booked stamped
 after-place b ks o s n a i c t f e =
     subst (λ x. Honest (x .board) (booked (b .now) a t c ∷ ks)) (sym (p .same ∙ there-put))
@@ -117,7 +121,8 @@ after-place b ks o s n a i c t f e =
     after : Board
     after = withTasks b (putFirst (λ k. not (live k)) (booked (b .now) a t c) (b .tasks))
 
-    there-put : submittedBooked b a (indexOf (λ k. not (live k)) (b .tasks)) c t ≡ record { answer = Placed c t (t + a .e); board = withTasks b (putFirst (λ k. not (live k)) (booked (b .now) a t c) (b .tasks)) }
+    there-put : submittedBooked b a (indexOf (λ k. not (live k)) (b .tasks)) c t
+        ≡ record { answer = Placed c t (t + a .e); board = withTasks b (putFirst (λ k. not (live k)) (booked (b .now) a t c) (b .tasks)) }
     there-put = ap (λ x. record { answer = Placed c t (t + a .e); board = withTasks b x }) (sym (put-index (λ k. not (live k)) (booked (b .now) a t c) (b .tasks)))
 
     clear : (l : Task) → (finish l ≤ b .now) ⊎ (stamped (b .now) l ∈ liveOf b) → Share (booked (b .now) a t c) l → ⊥
@@ -131,22 +136,35 @@ after-place b ks o s n a i c t f e =
     is-live : T (live (booked (b .now) a t c))
     is-live = stamped-live (b .now) _ (omega (arith, p .from-now, p .accepted .e .low))
 
-    standing-on : (l : Task) → (l ≡ booked (b .now) a t c) ⊎ (l ∈ ks) → (finish l ≤ b .now) ⊎ (stamped (b .now) l ∈ keep live (putFirst (λ k. not (live k)) (booked (b .now) a t c) (b .tasks)))
-    standing-on l (inl q) = inr (in-keep live (subst (λ y. y ∈ putFirst (λ k. not (live k)) (booked (b .now) a t c) (b .tasks)) (sym (ap (stamped (b .now)) q ∙ twice (b .now) (b .now) _)) (put-new (λ k. not (live k)) (booked (b .now) a t c) (b .tasks) (omega (arith, p .inside, s .slots)))) (subst (λ y. T (live y)) (sym (ap (stamped (b .now)) q ∙ twice (b .now) (b .now) _)) is-live))
+    standing-on : (l : Task) → (l ≡ booked (b .now) a t c) ⊎ (l ∈ ks)
+        → (finish l ≤ b .now) ⊎ (stamped (b .now) l ∈ keep live (putFirst (λ k. not (live k)) (booked (b .now) a t c) (b .tasks)))
+    standing-on l (inl q) =
+        inr
+        (in-keep live
+        (subst (λ y. y ∈ putFirst (λ k. not (live k)) (booked (b .now) a t c) (b .tasks)) (sym (ap (stamped (b .now)) q ∙ twice (b .now) (b .now) _))
+        (put-new (λ k. not (live k)) (booked (b .now) a t c) (b .tasks) (omega (arith, p .inside, s .slots))))
+        (subst (λ y. T (live y)) (sym (ap (stamped (b .now)) q ∙ twice (b .now) (b .now) _)) is-live))
     standing-on l (inr m) = pick (o .stands l m)
       where
-        pick : (finish l ≤ b .now) ⊎ (stamped (b .now) l ∈ liveOf b) → (finish l ≤ b .now) ⊎ (stamped (b .now) l ∈ keep live (putFirst (λ k. not (live k)) (booked (b .now) a t c) (b .tasks)))
+        pick : (finish l ≤ b .now) ⊎ (stamped (b .now) l ∈ liveOf b)
+            → (finish l ≤ b .now) ⊎ (stamped (b .now) l ∈ keep live (putFirst (λ k. not (live k)) (booked (b .now) a t c) (b .tasks)))
         pick (inl h) = inl h
-        pick (inr x) = let r = keep-in live (b .tasks) x in inr (in-keep live (put-keeps (λ k. not (live k)) (booked (b .now) a t c) (b .tasks) (r .0) (not-T (not (live (stamped (b .now) l))) (λ y. T-not (live (stamped (b .now) l)) y (r .1)))) (r .1))
+        pick (inr x) =
+            let r = keep-in live (b .tasks) x in
+            let taken = not-T (not (live (stamped (b .now) l))) (λ y. T-not (live (stamped (b .now) l)) y (r .1)) in
+            inr (in-keep live (put-keeps (λ k. not (live k)) (booked (b .now) a t c) (b .tasks) (r .0) taken) (r .1))
 
 withdrawn-done : (b : Board) (n : ℕ) → refusedWithdraw b n ≡ 0 → withdrawn b n ≡ record { number = 0; board = withTasks b (withoutNamed n (b .tasks)) }
 unfolding withdrawn orRefused
 withdrawn-done b n e = rw e
 
 -- a live task that was not struck is not the one withdrawn: of that id only a waiting task can be live
-kept-there : (b : Board) → SoundBoard b → (n : ℕ) → refusedWithdraw b n ≡ 0 → (l : Task) → T (not (eqb (l .id) n && waitingPhase (phaseAt (b .now) l))) → stamped (b .now) l ∈ b .tasks → T (live (stamped (b .now) l)) → stamped (b .now) l ∈ withoutNamed n (b .tasks)
+kept-there : (b : Board) → SoundBoard b → (n : ℕ) → refusedWithdraw b n ≡ 0 → (l : Task)
+    → T (not (eqb (l .id) n && waitingPhase (phaseAt (b .now) l))) → stamped (b .now) l ∈ b .tasks → T (live (stamped (b .now) l)) → stamped (b .now) l ∈ withoutNamed n (b .tasks)
 unfolding withoutNamed named begunNamed refusedWithdraw stamped
-kept-there b s n e l t m u = put-keeps (named n) freeSlot (b .tasks) m (not-T (named n (stamped (b .now) l)) (λ q. clash (and-r (live (stamped (b .now) l)) (eqb (l .id) n) q) (decLt (b .now) (l .start))))
+kept-there b s n e l t m u =
+    put-keeps (named n) freeSlot (b .tasks) m
+    (not-T (named n (stamped (b .now) l)) (λ q. clash (and-r (live (stamped (b .now) l)) (eqb (l .id) n) q) (decLt (b .now) (l .start))))
   where
     r14 : T (not (begunNamed n (b .tasks)))
     r14 =
@@ -230,7 +248,8 @@ module _ (b : Board) (ks : List Task) (o : Honest b ks) where
               stands = λ k m. on-clock k (o .stands k m) (p .from-now) (decLe (finish k) i);
             })
           where
-            on-clock : (k : Task) → (finish k ≤ b .now) ⊎ (stamped (b .now) k ∈ liveOf b) → b .now ≤ i → Dec (finish k ≤ i) → (finish k ≤ boardAt b i .now) ⊎ (stamped (boardAt b i .now) k ∈ liveOf (boardAt b i))
+            on-clock : (k : Task) → (finish k ≤ b .now) ⊎ (stamped (b .now) k ∈ liveOf b) → b .now ≤ i → Dec (finish k ≤ i)
+                → (finish k ≤ boardAt b i .now) ⊎ (stamped (boardAt b i .now) k ∈ liveOf (boardAt b i))
             on-clock k x h d = after-clock b i k x h d
 
     -- A SUBMISSION

@@ -37,13 +37,17 @@ edgeSet =
     ∷ case 1 1 (clock 5 ∷ clock 4 ∷ clock 5 ∷ clock 2000000001 ∷ clock 2000000000 ∷ clock 0 ∷ [])
     (only 0 ∷ only 11 ∷ only 0 ∷ only 12 ∷ only 0 ∷ only 11 ∷ [])
     -- withdrawal: 13 where no live task has the id, 14 from the start on; its columns, slot and horizon are free again
-    ∷ case 2 1 (submit 1 1 2 1 2 9 ∷ submit 1 2 2 1 3 9 ∷ withdraw 3 ∷ withdraw 0 ∷ withdraw 1 ∷ withdraw 2 ∷ withdraw 2 ∷ horizon 3 ∷ submit 1 3 2 1 2 4 ∷ clock 2 ∷ withdraw 3 ∷ withdraw 1 ∷ [])
+    ∷ case 2 1 (submit 1 1 2 1 2 9 ∷ submit 1 2 2 1 3 9 ∷ withdraw 3 ∷ withdraw 0 ∷ withdraw 1 ∷ withdraw 2 ∷ withdraw 2
+    ∷ horizon 3 ∷ submit 1 3 2 1 2 4 ∷ clock 2 ∷ withdraw 3 ∷ withdraw 1 ∷ [])
     (at 1 0 2 ∷ at 1 2 5 ∷ only 13 ∷ only 13 ∷ only 14 ∷ only 0 ∷ only 13 ∷ (0 ∷ 1 ∷ 1 ∷ 2 ∷ 2 ∷ []) ∷ at 1 2 4 ∷ only 0 ∷ only 14 ∷ only 13 ∷ [])
     -- openings: 5, 6, 8 in this order; no room, an odd word, a pair behind the last, starts after the last finish
     ∷ case 2 1 (submit 0 1 2 1 2 9 ∷ openings 3 1 0 9 0 0 3 ∷ openings 1 2 1 9 0 0 3 ∷ openings 1 1 0 0 0 0 3 ∷ openings 1 1 1 2000000001 0 0 3 ∷ openings 1 1 1 0 0 0 3 ∷ [])
-    (at 1 0 2 ∷ (5 ∷ 0 ∷ 0 ∷ replicate 3 999) ∷ (5 ∷ 0 ∷ 0 ∷ replicate 3 999) ∷ (6 ∷ 0 ∷ 0 ∷ replicate 3 999) ∷ (6 ∷ 0 ∷ 0 ∷ replicate 3 999) ∷ (8 ∷ 0 ∷ 0 ∷ replicate 3 999) ∷ [])
-    ∷ case 2 1 (submit 0 1 2 1 2 9 ∷ openings 1 1 1 4 0 0 0 ∷ openings 1 1 1 4 0 0 1 ∷ openings 1 1 1 4 0 0 5 ∷ openings 1 1 1 4 2 2 4 ∷ openings 1 1 1 4 3 2 4 ∷ openings 2 1 1 5 0 0 9 ∷ openings 1 1 2 3 0 0 9 ∷ [])
-    (at 1 0 2 ∷ (0 ∷ 0 ∷ 1 ∷ []) ∷ (0 ∷ 0 ∷ 1 ∷ 999 ∷ []) ∷ (0 ∷ 2 ∷ 1 ∷ 2 ∷ 1 ∷ 2 ∷ 2 ∷ 999 ∷ []) ∷ (0 ∷ 2 ∷ 0 ∷ 3 ∷ 1 ∷ 3 ∷ 2 ∷ []) ∷ (0 ∷ 0 ∷ 0 ∷ replicate 4 999)
+    (at 1 0 2 ∷ (5 ∷ 0 ∷ 0 ∷ replicate 3 999) ∷ (5 ∷ 0 ∷ 0 ∷ replicate 3 999)
+    ∷ (6 ∷ 0 ∷ 0 ∷ replicate 3 999) ∷ (6 ∷ 0 ∷ 0 ∷ replicate 3 999) ∷ (8 ∷ 0 ∷ 0 ∷ replicate 3 999) ∷ [])
+    ∷ case 2 1 (submit 0 1 2 1 2 9 ∷ openings 1 1 1 4 0 0 0 ∷ openings 1 1 1 4 0 0 1 ∷ openings 1 1 1 4 0 0 5
+    ∷ openings 1 1 1 4 2 2 4 ∷ openings 1 1 1 4 3 2 4 ∷ openings 2 1 1 5 0 0 9 ∷ openings 1 1 2 3 0 0 9 ∷ [])
+    (at 1 0 2 ∷ (0 ∷ 0 ∷ 1 ∷ []) ∷ (0 ∷ 0 ∷ 1 ∷ 999 ∷ [])
+    ∷ (0 ∷ 2 ∷ 1 ∷ 2 ∷ 1 ∷ 2 ∷ 2 ∷ 999 ∷ []) ∷ (0 ∷ 2 ∷ 0 ∷ 3 ∷ 1 ∷ 3 ∷ 2 ∷ []) ∷ (0 ∷ 0 ∷ 0 ∷ replicate 4 999)
     ∷ (0 ∷ 3 ∷ 0 ∷ 2 ∷ 1 ∷ 3 ∷ 1 ∷ 4 ∷ 1 ∷ replicate 3 999) ∷ (0 ∷ 0 ∷ 0 ∷ replicate 9 999) ∷ [])
     -- horizon list: three words a run or 17; runs of equal release that are not adjacent stay apart
     ∷ case 3 1 (submit 0 1 1 1 4 9 ∷ horizon 5 ∷ horizon 6 ∷ submit 0 2 1 1 2 9 ∷ submit 0 3 1 1 4 9 ∷ horizon 8 ∷ horizon 10 ∷ clock 3 ∷ horizon 9 ∷ [])
@@ -51,7 +55,8 @@ edgeSet =
     ∷ (0 ∷ 3 ∷ 2 ∷ 2 ∷ 2 ∷ 1 ∷ 1 ∷ 4 ∷ 3 ∷ 3 ∷ 4 ∷ 999 ∷ []) ∷ only 0 ∷ (0 ∷ 3 ∷ 2 ∷ 2 ∷ 3 ∷ 1 ∷ 1 ∷ 4 ∷ 3 ∷ 3 ∷ 4 ∷ []) ∷ [])
     -- busy columns: from the start, up to and without the finish; 11 and 12
     ∷ case 4 1 (submit 0 1 2 1 2 9 ∷ submit 1 2 3 1 4 9 ∷ busy 0 ∷ busy 1 ∷ busy 2 ∷ busy 5 ∷ busy 6 ∷ clock 1 ∷ busy 0 ∷ busy 2000000000 ∷ busy 2000000001 ∷ [])
-    (at 1 0 2 ∷ at 1 2 6 ∷ (0 ∷ 2 ∷ []) ∷ (0 ∷ 2 ∷ []) ∷ (0 ∷ 3 ∷ []) ∷ (0 ∷ 3 ∷ []) ∷ (0 ∷ 0 ∷ []) ∷ only 0 ∷ (11 ∷ 0 ∷ []) ∷ (0 ∷ 0 ∷ []) ∷ (12 ∷ 0 ∷ []) ∷ [])
+    (at 1 0 2 ∷ at 1 2 6 ∷ (0 ∷ 2 ∷ []) ∷ (0 ∷ 2 ∷ []) ∷ (0 ∷ 3 ∷ []) ∷ (0 ∷ 3 ∷ []) ∷ (0 ∷ 0 ∷ [])
+    ∷ only 0 ∷ (11 ∷ 0 ∷ []) ∷ (0 ∷ 0 ∷ []) ∷ (12 ∷ 0 ∷ []) ∷ [])
     ∷ []
 
 -- 64 columns and 64 live tasks, the task in column c with id c

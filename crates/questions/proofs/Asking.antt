@@ -10,7 +10,8 @@ use Rattle.questions.specs.declared.Question.the-variants.{Wrong, Horizo
 use Rattle.questions.specs.Questions.{rightOr, openingsAsked, askedBy, horizonName, busyName, openingsName, boardName, stampName}
 
 -- words that are such numbers, and others
-pub right-yes : (mosts : List ℕ) (ws : List (List ℕ)) (other : Question) {said q : Question} {r : ℕ} → r ≡ wrong 1 mosts ws → r ≡ 0 → said ≡ q → said ≡ rightOr mosts ws q other
+pub right-yes : (mosts : List ℕ) (ws : List (List ℕ)) (other : Question) {said q : Question} {r : ℕ} → r ≡ wrong 1 mosts ws → r ≡ 0 → said ≡ q
+    → said ≡ rightOr mosts ws q other
 unfolding rightOr
 right-yes mosts ws other {said} {q} {r} e h k = rw (← e, h) k
 
@@ -32,14 +33,17 @@ module _ (name : List ℕ) (ws : List (List ℕ)) where
   unfolding askedBy
   asked-openings n0 n1 y = rw (n0, n1, y)
 
-  pub asked-board : same name horizonName ≡ false → same name busyName ≡ false → same name openingsName ≡ false → same name boardName ≡ true → rightOr [] ws Board Wrong ≡ askedBy name ws
+  pub asked-board : same name horizonName ≡ false → same name busyName ≡ false → same name openingsName ≡ false → same name boardName ≡ true
+      → rightOr [] ws Board Wrong ≡ askedBy name ws
   unfolding askedBy
   asked-board n0 n1 n2 y = rw (n0, n1, n2, y)
 
-  pub asked-stamp : same name horizonName ≡ false → same name busyName ≡ false → same name openingsName ≡ false → same name boardName ≡ false → same name stampName ≡ true → rightOr (4294967295 ∷ []) ws (Stamp (nth 0 ws)) Wrong ≡ askedBy name ws
+  pub asked-stamp : same name horizonName ≡ false → same name busyName ≡ false → same name openingsName ≡ false → same name boardName ≡ false
+      → same name stampName ≡ true → rightOr (4294967295 ∷ []) ws (Stamp (nth 0 ws)) Wrong ≡ askedBy name ws
   unfolding askedBy
   asked-stamp n0 n1 n2 n3 y = rw (n0, n1, n2, n3, y)
 
-  pub asked-other : same name horizonName ≡ false → same name busyName ≡ false → same name openingsName ≡ false → same name boardName ≡ false → same name stampName ≡ false → Wrong ≡ askedBy name ws
+  pub asked-other : same name horizonName ≡ false → same name busyName ≡ false → same name openingsName ≡ false → same name boardName ≡ false
+      → same name stampName ≡ false → Wrong ≡ askedBy name ws
   unfolding askedBy
   asked-other n0 n1 n2 n3 n4 = rw (n0, n1, n2, n3, n4)

@@ -52,6 +52,13 @@ unfolding edge
 edge-next past n v h = getD-set-same past n v 0 h
 
 module _ {row : List ℕ} {W : ℕ} {past at : List ℕ} {n c x : ℕ} (p : Pressing row W past at n c x) where
+  -- what is stored of the step that is begun
+  past-new : {j : ℕ} → j ≡ n → getD (set past n (c + 1)) j 0 ≡ c + 1
+  past-new o = ap (λ i. getD (set past n (c + 1)) i 0) o ∙ getD-set-same past n (c + 1) 0 (omega (arith, p .room-past, p .below, p .upto, p .wide))
+
+  at-new : {j : ℕ} → j ≡ n → getD (set at n x) j 0 ≡ x
+  at-new o = ap (λ i. getD (set at n x) i 0) o ∙ getD-set-same at n x 0 (omega (arith, p .room-at, p .below, p .upto, p .wide))
+
   -- the step that is begun is stored: one more is done
   stored : Done row (set past n (c + 1)) (set at n x) (suc n) (c + 1)
   stored = record {
@@ -63,22 +70,19 @@ module _ {row : List ℕ} {W : ℕ} {past at : List ℕ} {n c x : ℕ} (p : Pres
       other : (j : ℕ) → (j ≡ n → ⊥) → getD (set past n (c + 1)) j 0 ≡ getD past j 0
       other j z = getD-set-other past n j (c + 1) 0 z
 
-      new : getD (set past n (c + 1)) n 0 ≡ c + 1
-      new = getD-set-same past n (c + 1) 0 (omega (arith, p .room-past, p .below, p .upto, p .wide))
-
       rises : (j : ℕ) → j < suc n → Dec (j ≡ n) → edge (set past n (c + 1)) j < getD (set past n (c + 1)) j 0
-      rises j h (yes z) = rw (z, edge-kept past n (c + 1) n (omega arith), new) (omega (arith, p .begun))
+      rises j h (yes z) = rw (z, edge-kept past n (c + 1) n (omega arith), past-new refl) (omega (arith, p .begun))
       rises j h (no z) = rw (edge-kept past n (c + 1) j (omega arith), other j z) (p .done .rises j (omega arith))
 
       within : (j : ℕ) → j < suc n → Dec (j ≡ n) → getD (set past n (c + 1)) j 0 ≤ c + 1
-      within j h (yes z) = rw (z, new) (omega arith)
+      within j h (yes z) = rw (past-new z) (omega arith)
       within j h (no z) = rw (other j z) (omega (arith, p .done .within j (omega arith)))
 
       level : (j : ℕ) → j < suc n → Dec (j ≡ n) → (k : ℕ) → edge (set past n (c + 1)) j ≤ k → k < getD (set past n (c + 1)) j 0 → inRow row k ≡ getD (set at n x) j 0
       level j h (yes z) k l b =
           let l′ : edge past n ≤ k = subst (λ e. e ≤ k) (ap (edge (set past n (c + 1))) z ∙ edge-kept past n (c + 1) n (omega arith)) l in
-          let b′ : k < c + 1 = subst (λ e. k < e) (ap (λ i. getD (set past n (c + 1)) i 0) z ∙ new) b in
-          p .flat k l′ (omega arith) ∙ sym (ap (λ i. getD (set at n x) i 0) z ∙ getD-set-same at n x 0 (omega (arith, p .room-at, p .below, p .upto, p .wide)))
+          let b′ : k < c + 1 = subst (λ e. k < e) (past-new z) b in
+          p .flat k l′ (omega arith) ∙ sym (at-new z)
       level j h (no z) k l b =
           p .done .level j (omega arith) k (subst (λ e. e ≤ k) (edge-kept past n (c + 1) j (omega arith)) l) (subst (λ e. k < e) (other j z) b)
           ∙ sym (getD-set-other at n j x 0 z)
@@ -109,10 +113,8 @@ module _ {row : List ℕ} {W : ℕ} {past at : List ℕ} {n c x : ℕ} (p : Pres
       ended : (j : ℕ) → j < n + 1 → Dec (j ≡ n) → inRow row (getD (set past n (c + 1)) j 0) ≡ getD (set at n x) j 0 → ⊥
       ended j z (no o) e = ended-kept (c + 1) j (omega arith) e
       ended j z (yes o) e =
-          let past-is : getD (set past n (c + 1)) j 0 ≡ c + 1 = ap (λ i. getD (set past n (c + 1)) i 0) o ∙ getD-set-same past n (c + 1) 0 (omega (arith, p .room-past, p .below, p .upto, p .wide)) in
-          let at-is : getD (set at n x) j 0 ≡ x = ap (λ i. getD (set at n x) i 0) o ∙ getD-set-same at n x 0 (omega (arith, p .room-at, p .below, p .upto, p .wide)) in
           let back : c + 1 - 1 ≡ c = omega arith in
-          differs (sym (sym (ap (inRow row) past-is ∙ ap (λ i. getD row i 0) back) ∙ e ∙ at-is))
+          differs (sym (sym (ap (inRow row) (past-new o) ∙ ap (λ i. getD row i 0) back) ∙ e ∙ at-new o))
 
       begins : edge (set past n (c + 1)) (n + 1) ≡ c + 1
       begins = ap (edge (set past n (c + 1))) (add-one n) ∙ edge-next past n (c + 1) (omega (arith, p .room-past, p .below, p .upto, p .wide))
@@ -152,9 +154,7 @@ module _ {row : List ℕ} {W : ℕ} {past at : List ℕ} {n c x : ℕ} (p : Pres
     where
       ends : (j : ℕ) → j < suc n → Dec (j ≡ n) → getD (set past n (c + 1)) j 0 ≤ W → inRow row (getD (set past n (c + 1)) j 0) ≡ getD (set at n x) j 0 → ⊥
       ends j h (no o) l = ended-kept (c + 1) j (omega arith)
-      ends j h (yes o) l =
-          let past-is : getD (set past n (c + 1)) j 0 ≡ c + 1 = ap (λ i. getD (set past n (c + 1)) i 0) o ∙ getD-set-same past n (c + 1) 0 (omega (arith, p .room-past, p .below, p .upto, p .wide)) in
-          absurd (omega arith)
+      ends j h (yes o) l = absurd (omega (arith, past-new o))
 
 -- every step begins at column 1 or after
 pub edge-from : {past : List ℕ} {n : ℕ} → Rises past n → (j : ℕ) → j < n → 1 ≤ edge past j
@@ -163,7 +163,8 @@ edge-from o zero h = omega arith
 edge-from o (suc j) h = omega (arith, o .rises j (omega arith))
 
 -- steps of a row that has the releases are steps of the releases
-pub press-release : {past at : List ℕ} {W n : ℕ} (row : List ℕ) (rel : ℕ → ℕ) → W ≤ 256 → ((k : ℕ) → k < 256 → getD row k 0 ≡ rel (suc k)) → Pressed (inRow row) W past at n → Pressed rel W past at n
+pub press-release : {past at : List ℕ} {W n : ℕ} (row : List ℕ) (rel : ℕ → ℕ) → W ≤ 256 → ((k : ℕ) → k < 256 → getD row k 0 ≡ rel (suc k))
+    → Pressed (inRow row) W past at n → Pressed rel W past at n
 press-release {past} {at} {W} {n} row rel h f p = record { steps = p .steps; level = level; inside = p .inside; all = p .all; ends = ends }
   where
     ends : (j : ℕ) → j < n → getD past j 0 ≤ W → rel (getD past j 0) ≡ getD at j 0 → ⊥

@@ -31,8 +31,10 @@ text-more slot (k ∷ ks) (s ∷ ss) zero h g =
     append-nil (slotText slot k s) ∙ ap (λ n. slotText n k s) z
 text-more slot (k ∷ ks) (s ∷ ss) (suc i) h g =
     let z : suc slot + i ≡ slot + suc i = omega arith in
-    ap (λ t. slotText slot k s ++ t) (text-more (suc slot) ks ss i (omega arith) (omega arith) ∙ ap (λ n. tasksText (suc slot) (take i ks) (take i ss) ++ slotText n (getD ks i freeSlot) (getD ss i freeSlot)) z)
-    ∙ sym (append-assoc (slotText slot k s) (tasksText (suc slot) (take i ks) (take i ss)) (slotText (slot + suc i) (getD ks i freeSlot) (getD ss i freeSlot)))
+    let between = tasksText (suc slot) (take i ks) (take i ss) in
+    let last : ℕ → List ℕ = λ n. slotText n (getD ks i freeSlot) (getD ss i freeSlot) in
+    ap (λ t. slotText slot k s ++ t) (text-more (suc slot) ks ss i (omega arith) (omega arith) ∙ ap (λ n. between ++ last n) z)
+    ∙ sym (append-assoc (slotText slot k s) between (last (slot + suc i)))
 
 -- NO SLOT YET, and one more
 pub slots-none : (l : List ℕ) (at slot : ℕ) (ks ss : List Task) → Put l at (tasksText slot (take 0 ks) (take 0 ss)) l at

@@ -27,10 +27,15 @@ unfolding readFrom toldRead
 left-over [] t n = omega arith
 left-over (kind ∷ body) t n = go (eqb kind 1) (eqb kind 2) (eqb kind 3) (eqb kind 4) t n
   where
-    go : (a b c d : Bool)
-        → toldRead (cond a (wholeOr15 kind 4 body (newBoardIn body)) (cond b (wholeOr15 kind 17 body (submitIn body)) (cond c (wholeOr15 kind 4 body (clockIn body)) (cond d (wholeOr15 kind 4 body (withdrawIn body)) (Unknown kind))))) .taken ≡ 0
-        → (toldRead (cond a (wholeOr15 kind 4 body (newBoardIn body)) (cond b (wholeOr15 kind 17 body (submitIn body)) (cond c (wholeOr15 kind 4 body (clockIn body)) (cond d (wholeOr15 kind 4 body (withdrawIn body)) (Unknown kind))))) .number ≡ 16 → ⊥)
-        → suc (length body) < 18
+    -- the reading by its kind byte: 1, 2, 3, 4, or another
+    reading : Bool → Bool → Bool → Bool → Reading
+    reading a b c d =
+        cond a (wholeOr15 kind 4 body (newBoardIn body))
+        (cond b (wholeOr15 kind 17 body (submitIn body))
+        (cond c (wholeOr15 kind 4 body (clockIn body))
+        (cond d (wholeOr15 kind 4 body (withdrawIn body)) (Unknown kind))))
+
+    go : (a b c d : Bool) → toldRead (reading a b c d) .taken ≡ 0 → (toldRead (reading a b c d) .number ≡ 16 → ⊥) → suc (length body) < 18
     go true b c d z f = short kind 4 body (newBoardIn body) (omega arith) z
     go false true c d z f = short kind 17 body (submitIn body) (omega arith) z
     go false false true d z f = short kind 4 body (clockIn body) (omega arith) z
@@ -38,7 +43,8 @@ left-over (kind ∷ body) t n = go (eqb kind 1) (eqb kind 2) (eqb kind 3) (eqb k
     go false false false false z f = absurd (f refl)
 
 -- the same of a reading as it is told in numbers
-pub left-told : (l : List ℕ) {reading : Reading} {number taken : ℕ} → reading ≡ readFrom l → number ≡ toldRead reading .number → taken ≡ toldRead reading .taken → taken ≤ 0 → (number ≡ 16 → ⊥) → length l < 18
+pub left-told : (l : List ℕ) {reading : Reading} {number taken : ℕ} → reading ≡ readFrom l → number ≡ toldRead reading .number → taken ≡ toldRead reading .taken
+    → taken ≤ 0 → (number ≡ 16 → ⊥) → length l < 18
 left-told l {reading} {number} {taken} r n t z f =
     let none : taken ≡ 0 = omega arith in
     left-over l (ap (λ x. toldRead x .taken) (sym r) ∙ sym t ∙ none) (λ e. f (n ∙ ap (λ x. toldRead x .number) r ∙ e))

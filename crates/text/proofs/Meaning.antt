@@ -1,5 +1,4 @@
--- What the decimal text of a number is: digits only, none of them a leading zero, and their value is the number. So no two numbers
--- have one text. Assumes nothing.
+-- What the decimal text of a number is: digits only, no leading zero, and their value is the number; so no two numbers have one text. Assumes nothing.
 use Prim.Native.Nat.{ℕ, zero, suc, _+_, _-_, _*_, _/_, _%_, _≤_, _<_}
 use mathlib.Core.Path.{_≡_, refl, sym, ap, _∙_}
 use mathlib.Core.Bool.{Bool, true, false, cond}
@@ -40,11 +39,13 @@ unfolding value decimalIn
 value-in zero x h = absurd (omega arith)
 value-in (suc most) x h = go (λ k. value-in most (x / 10) k) (ltb x 10) refl
   where
-    go : (x / 10 < most → value 0 (decimalIn most (x / 10)) ≡ x / 10) → (t : Bool) → ltb x 10 ≡ t → value 0 (cond t ((48 + x) ∷ []) (decimalIn most (x / 10) ++ ((48 + x % 10) ∷ []))) ≡ x
+    go : (x / 10 < most → value 0 (decimalIn most (x / 10)) ≡ x / 10) → (t : Bool) → ltb x 10 ≡ t
+        → value 0 (cond t ((48 + x) ∷ []) (decimalIn most (x / 10) ++ ((48 + x % 10) ∷ []))) ≡ x
     go tenth true e = omega arith
     go tenth false e =
         let large : 10 ≤ x = omega (arith, ltb-false x 10 e) in
-        value-append 0 (decimalIn most (x / 10)) ((48 + x % 10) ∷ []) ∙ ap (λ v. v * 10 + (48 + x % 10 - 48)) (tenth (omega arith)) ∙ (let z : x / 10 * 10 + (48 + x % 10 - 48) ≡ x = omega arith in z)
+        let whole : x / 10 * 10 + (48 + x % 10 - 48) ≡ x = omega arith in
+        value-append 0 (decimalIn most (x / 10)) ((48 + x % 10) ∷ []) ∙ ap (λ v. v * 10 + (48 + x % 10 - 48)) (tenth (omega arith)) ∙ whole
 
 pub decimal-value : (x : ℕ) → value 0 (decimal x) ≡ x
 unfolding decimal
@@ -78,7 +79,8 @@ unfolding decimalIn
 first-in zero x h k = absurd (omega arith)
 first-in (suc most) x h k = go (λ l m. first-in most (x / 10) l m) (ltb x 10) refl
   where
-    go : (x / 10 < most → 0 < x / 10 → 48 < getD (decimalIn most (x / 10)) 0 0) → (t : Bool) → ltb x 10 ≡ t → 48 < getD (cond t ((48 + x) ∷ []) (decimalIn most (x / 10) ++ ((48 + x % 10) ∷ []))) 0 0
+    go : (x / 10 < most → 0 < x / 10 → 48 < getD (decimalIn most (x / 10)) 0 0) → (t : Bool) → ltb x 10 ≡ t
+        → 48 < getD (cond t ((48 + x) ∷ []) (decimalIn most (x / 10) ++ ((48 + x % 10) ∷ []))) 0 0
     go tenth true e = omega arith
     go tenth false e =
         let large : 10 ≤ x = omega (arith, ltb-false x 10 e) in

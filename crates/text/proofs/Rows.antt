@@ -6,25 +6,11 @@ use native.Mathlib.Nat.{zero-add, zero-mul, suc-mul, mul-le-mul-right}
 use native.Mathlib.Numerals.{add-one}
 use native.Mathlib.Omega.{arith}
 use lib.ListN.{length, take, drop, getD, length-drop}
-use lib.Seq.{sets-eq, take-suc, drop-cons, drop-drop, getD-drop}
+use lib.Seq.{sets-eq, take-suc, drop-drop, getD-drop}
 use Rattle.lists.specs.Lists.{each, overFront}
 use Rattle.text.specs.Text.{decimal, lineText, rowText, rowsText, rowsOf}
 use Rattle.text.specs.Digits.{spaced, Put}
 use Rattle.text.proofs.Spelling.{put-both}
-
--- the word at a place, and those behind it
-word : (l : List ℕ) (n i k : ℕ) → i + k < length l → take (suc n) (drop (i + k) l) ≡ getD l (i + k) 0 ∷ take n (drop (i + suc k) l)
-word l n i k h = ap (take (suc n)) (drop-cons l (i + k) 0 h) ∙ ap (λ j. getD l (i + k) 0 ∷ take n (drop j l)) (let z : suc (i + k) ≡ i + suc k = omega arith in z)
-
--- THE WORDS OF A ROW
-pub six-words : (l : List ℕ) (i : ℕ) → i + 6 ≤ length l
-    → getD l i 0 ∷ getD l (i + 1) 0 ∷ getD l (i + 2) 0 ∷ getD l (i + 3) 0 ∷ getD l (i + 4) 0 ∷ getD l (i + 5) 0 ∷ [] ≡ take 6 (drop i l)
-six-words l i h =
-    let z : i + 0 ≡ i = omega arith in
-    sym
-    (ap (λ j. take 6 (drop j l)) (sym z)
-    ∙ rw (word l 5 i 0 (omega arith), word l 4 i 1 (omega arith), word l 3 i 2 (omega arith), word l 2 i 3 (omega arith), word l 1 i 4 (omega arith), word l 0 i 5 (omega arith))
-    (ap (λ j. getD l j 0 ∷ getD l (i + 1) 0 ∷ getD l (i + 2) 0 ∷ getD l (i + 3) 0 ∷ getD l (i + 4) 0 ∷ getD l (i + 5) 0 ∷ []) z))
 
 -- one number more with a space behind it
 spaced-more : (xs : List ℕ) (x : ℕ) → spaced (xs ++ (x ∷ [])) ≡ spaced xs ++ (decimal x ++ (32 ∷ []))
@@ -46,7 +32,8 @@ line-spaced (n ∷ ns) w ws =
     line-before (decimal n) ns w ws ∙ ap (λ t. decimal n ++ (32 ∷ t)) (line-spaced ns w ws)
     ∙ sym (ap (λ t. t ++ lineText (w ∷ ws)) (append-assoc (decimal n) (32 ∷ []) (spaced ns)) ∙ append-assoc (decimal n) (32 ∷ spaced ns) (lineText (w ∷ ws)))
 
-pub line-rest : {l m k : List ℕ} {at p q : ℕ} (ns w : List ℕ) (ws : List (List ℕ)) → Put l at (spaced ns) m p → Put m p (lineText (w ∷ ws)) k q → Put l at (lineText (map decimal ns ++ (w ∷ ws))) k q
+pub line-rest : {l m k : List ℕ} {at p q : ℕ} (ns w : List ℕ) (ws : List (List ℕ)) → Put l at (spaced ns) m p → Put m p (lineText (w ∷ ws)) k q
+    → Put l at (lineText (map decimal ns ++ (w ∷ ws))) k q
 line-rest ns w ws a b = rw (line-spaced ns w ws) (put-both a b)
 
 -- a row by its last number
@@ -64,11 +51,13 @@ pub words-none : (l words : List ℕ) (at from : ℕ) → Put l at (spaced (take
 unfolding spaced each
 words-none l words at from = record { stored = refl; place = (let z : at ≡ at + 0 = omega arith in z) }
 
-pub words-more : {l m n : List ℕ} {at p q : ℕ} (words : List ℕ) (from i : ℕ) → from + i < length words → Put l at (spaced (take i (drop from words))) m p → Put m p (decimal (getD words (from + i) 0) ++ (32 ∷ [])) n q
+pub words-more : {l m n : List ℕ} {at p q : ℕ} (words : List ℕ) (from i : ℕ) → from + i < length words
+    → Put l at (spaced (take i (drop from words))) m p → Put m p (decimal (getD words (from + i) 0) ++ (32 ∷ [])) n q
     → Put l at (spaced (take (i + 1) (drop from words))) n q
 words-more words from i h a b = rw (add-one i, part-more words from i h, spaced-more) (put-both a b)
 
-pub words-last : {l m n : List ℕ} {at p q : ℕ} (words : List ℕ) (from i : ℕ) → from + i < length words → Put l at (spaced (take i (drop from words))) m p → Put m p (decimal (getD words (from + i) 0) ++ (10 ∷ [])) n q
+pub words-last : {l m n : List ℕ} {at p q : ℕ} (words : List ℕ) (from i : ℕ) → from + i < length words
+    → Put l at (spaced (take i (drop from words))) m p → Put m p (decimal (getD words (from + i) 0) ++ (10 ∷ [])) n q
     → Put l at (rowText (take (i + 1) (drop from words))) n q
 words-last words from i h a b = rw (add-one i, part-more words from i h, row-last) (put-both a b)
 
@@ -82,7 +71,8 @@ unfolding rowsText rowsOf each
 text-more n zero words = rw zero-mul (append-nil (rowText (take n words)))
 text-more n (suc i) words =
     let next : n + i * n ≡ suc i * n = omega (arith, suc-mul i n) in
-    ap (λ t. rowText (take n words) ++ t) (text-more n i (drop n words) ∙ ap (λ w. rowsText (rowsOf n i (drop n words)) ++ rowText (take n w)) (drop-drop (i * n) n words ∙ ap (λ j. drop j words) next))
+    let left : drop (i * n) (drop n words) ≡ drop (suc i * n) words = drop-drop (i * n) n words ∙ ap (λ j. drop j words) next in
+    ap (λ t. rowText (take n words) ++ t) (text-more n i (drop n words) ∙ ap (λ w. rowsText (rowsOf n i (drop n words)) ++ rowText (take n w)) left)
     ∙ sym (append-assoc (rowText (take n words)) (rowsText (rowsOf n i (drop n words))) (rowText (take n (drop (suc i * n) words))))
 
 -- ONE ROW MORE

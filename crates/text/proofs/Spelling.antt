@@ -1,13 +1,13 @@
 -- Digits stored from the last one backwards, and texts stored one behind the other. Assumes nothing.
 use Prim.Native.Nat.{ℕ, zero, suc, _+_, _-_, _/_, _%_, _≤_, _<_}
 use mathlib.Core.Path.{_≡_, refl, sym, ap, _∙_}
-use mathlib.Core.List.{List, [], _∷_, _++_, map, append-assoc}
+use mathlib.Core.List.{List, [], _∷_, _++_, append-assoc}
 use native.Mathlib.Omega.{arith}
 use native.Mathlib.Numerals.{add-one}
 use lib.ListN.{length, take, set, getD, length-append}
 use lib.Seq.{sets, take-suc, length-take-le}
 use Rattle.lists.proofs.Stores.{sets-append, set-behind}
-use Rattle.text.specs.Text.{decimal, lineText, rowText}
+use Rattle.text.specs.Text.{lineText}
 use Rattle.text.specs.Digits.{lastDigits, Put}
 use Rattle.text.proofs.Counting.{last-length}
 
@@ -43,18 +43,10 @@ pub line-end : {l m : List ℕ} {at p : ℕ} (w : List ℕ) → Put l at (w ++ (
 unfolding lineText
 line-end w a = a
 
-pub line-more : {l m n : List ℕ} {at p q : ℕ} (w v : List ℕ) (ws : List (List ℕ)) → Put l at (w ++ (32 ∷ [])) m p → Put m p (lineText (v ∷ ws)) n q → Put l at (lineText (w ∷ v ∷ ws)) n q
+pub line-more : {l m n : List ℕ} {at p q : ℕ} (w v : List ℕ) (ws : List (List ℕ)) → Put l at (w ++ (32 ∷ [])) m p → Put m p (lineText (v ∷ ws)) n q
+    → Put l at (lineText (w ∷ v ∷ ws)) n q
 unfolding lineText
 line-more w v ws a b = rw append-assoc at (put-both a b)
-
--- a row: the same of numbers
-pub row-end : {l m : List ℕ} {at p : ℕ} (x : ℕ) → Put l at (decimal x ++ (10 ∷ [])) m p → Put l at (rowText (x ∷ [])) m p
-unfolding rowText
-row-end x a = line-end (decimal x) a
-
-pub row-more : {l m n : List ℕ} {at p q : ℕ} (x y : ℕ) (xs : List ℕ) → Put l at (decimal x ++ (32 ∷ [])) m p → Put m p (rowText (y ∷ xs)) n q → Put l at (rowText (x ∷ y ∷ xs)) n q
-unfolding rowText
-row-more x y xs a b = line-more (decimal x) (decimal y) (map decimal xs) a b
 
 -- bytes stored one behind the other
 pub bytes-more : (l bytes : List ℕ) (at i : ℕ) → i < length bytes → set (sets l at (take i bytes)) (at + i) (getD bytes i 0) ≡ sets l at (take (i + 1) bytes)

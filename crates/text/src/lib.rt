@@ -104,52 +104,6 @@ pub fn put_ended(out: &mut [u8], at: usize, x: u32, end: u8) -> usize
     after + 1
 }
 
-// "event number from 1, kind, answer, column, start, finish": the six numbers of a line; the place after it.
-fn put_six(out: &mut [u8], at: usize, a: u32, b: u32, c: u32, d: u32, e: u32, f: u32) -> usize
-    requires { ⌜ at + 66 ≤ length (now out) ⌝ }
-    ensures { λ r. ⌜ Put (now (out .entry)) at (rowText (a ∷ b ∷ c ∷ d ∷ e ∷ f ∷ [])) (now (out .exit)) r ⌝ }
-    ensures { λ r. ⌜ r ≤ at + 66 ⌝ }
-{
-    let b_at = put_ended(out, at, a, b' ');
-    let c_at = put_ended(out, b_at, b, b' ');
-    let d_at = put_ended(out, c_at, c, b' ');
-    let e_at = put_ended(out, d_at, d, b' ');
-    let f_at = put_ended(out, e_at, e, b' ');
-    put_ended(out, f_at, f, b'\n')
-}
-
-// A row: the six words from a place on; the place after the line.
-fn put_row(out: &mut [u8], at: usize, words: &[u32], from: usize) -> usize
-    requires { ⌜ (at + 66 ≤ length (now out)) × (from + 6 ≤ length (now words)) ⌝ }
-    ensures { λ r. ⌜ r ≡ at + length (rowText (take 6 (drop from (now (words .entry))))) ⌝ }
-    ensures { λ r. ⌜ now (out .exit) ≡ sets (now (out .entry)) at (rowText (take 6 (drop from (now (words .entry))))) ⌝ }
-    ensures { λ r. ⌜ r ≤ at + 66 ⌝ }
-{
-    let a = words[from];
-    let b = words[from + 1];
-    let c = words[from + 2];
-    let d = words[from + 3];
-    let e = words[from + 4];
-    let f = words[from + 5];
-    put_six(out, at, a, b, c, d, e, f)
-}
-
-// The first `count` rows of the words at the front of the buffer; how many bytes they take.
-pub fn put_rows(out: &mut [u8], words: &[u32], count: usize) -> usize
-    requires { ⌜ (count * 66 ≤ length (now out)) × (count * 6 ≤ length (now words)) ⌝ }
-    ensures { λ r. ⌜ r ≡ length (rowsText (rowsOf 6 count (now (words .entry)))) ⌝ }
-    ensures { λ r. ⌜ now (out .exit) ≡ overFront (rowsText (rowsOf 6 count (now (words .entry)))) (now (out .entry)) ⌝ }
-    ensures { λ r. ⌜ r ≤ count * 66 ⌝ }
-{
-    let mut at: usize = 0;
-    let mut i: usize = 0;
-    while i < count {
-        at = put_row(out, at, words, i * 6);
-        i += 1;
-    }
-    at
-}
-
 // n words from a place on, each with a space behind it; the place after them.
 pub fn put_spaced(out: &mut [u8], at: usize, words: &[u32], from: usize, n: usize) -> usize
     requires { ⌜ (at + n * 11 ≤ length (now out)) × (from + n ≤ length (now words)) ⌝ }

@@ -1,16 +1,16 @@
 -- Numbers read word by word, one for each limit: what is read so far, and what the rest then says. Assumes nothing.
-use Prim.Native.Nat.{ℕ, zero, suc, _+_, _-_, _≤_, _<_}
+use Prim.Native.Nat.{ℕ, zero, suc, _+_, _≤_, _<_}
 use mathlib.Core.Path.{_≡_, refl, sym, ap, _∙_}
 use mathlib.Core.Bool.{true, false}
 use mathlib.Core.List.{List, [], _∷_}
 use native.Mathlib.Omega.{arith}
 use native.Mathlib.Numerals.{add-one}
-use lib.ListN.{length, drop, getD, set, replicate, length-set, length-drop, drop-of-length-le}
-use lib.Seq.{length-take-le, drop-cons, drop-drop, getD-drop}
+use lib.ListN.{length, drop, getD, set, replicate, length-set, drop-of-length-le}
+use lib.Seq.{drop-cons, drop-drop, getD-drop}
 use Rattle.lists.proofs.Append.{stored}
 use Rattle.text.specs.Text.{value}
 use Rattle.wording.proofs.Judged.{fits-most}
-use Rattle.wording.proofs.Walking.{no-word}
+use Rattle.wording.proofs.Walking.{no-word, same-places}
 use Rattle.wording.specs.declared.Word.{Word}
 use Rattle.wording.specs.declared.Numbers.{Numbers}
 use Rattle.wording.specs.Wording.{ended, words, empty, fits, wrong, nth}
@@ -44,9 +44,6 @@ sofar-none l at mosts h =
       small = λ k b. rw (zeros-at 7 k) (omega arith);
     }
 
-size-of : (l : List ℕ) (f t : ℕ) → t ≤ length l → length (part f t l) ≡ t - f
-size-of l f t h = length-take-le (t - f) (drop f l) (omega (arith, length-drop f l))
-
 -- a word that is a number has a byte
 whole : (m : ℕ) (s : List ℕ) (ws : List (List ℕ)) → fits m s ≡ true → ended s ws ≡ s ∷ ws
 unfolding fits empty ended
@@ -78,7 +75,8 @@ module _ {l : List ℕ} {at : ℕ} {mosts values : List ℕ} {from i : ℕ} {w :
       }
 
   -- A WORD THAT IS NO SUCH NUMBER, or none at all
-  pub stops-here : {r : Numbers} → i < length mosts → fits (getD mosts i 0) (part (w .from) (w .to) l) ≡ false → r .wrong ≡ i + 1 → r .values ≡ values → Counted (words (drop at l)) mosts r
+  pub stops-here : {r : Numbers} → i < length mosts → fits (getD mosts i 0) (part (w .from) (w .to) l) ≡ false → r .wrong ≡ i + 1 → r .values ≡ values
+      → Counted (words (drop at l)) mosts r
   unfolding wrong ended
   stops-here {r} h f a b =
       record {
@@ -89,7 +87,7 @@ module _ {l : List ℕ} {at : ℕ} {mosts values : List ℕ} {from i : ℕ} {w :
       }
     where
       go : (s : List ℕ) → part (w .from) (w .to) l ≡ s → wrong (i + 1) (getD mosts i 0 ∷ drop (suc i) mosts) (words (drop from l)) ≡ i + 1
-      go [] q = ap (wrong (i + 1) (getD mosts i 0 ∷ drop (suc i) mosts)) (no-word nx (let z : w .to - w .from ≡ 0 = sym (size-of l (w .from) (w .to) (nx .within)) ∙ ap length q in omega (arith, nx .ordered)))
+      go [] q = ap (wrong (i + 1) (getD mosts i 0 ∷ drop (suc i) mosts)) (no-word nx (same-places nx q))
       go (b ∷ bs) q = ap (wrong (i + 1) (getD mosts i 0 ∷ drop (suc i) mosts)) (nx .first ∙ ap (λ t. ended t (words (drop (w .to) l))) q) ∙ rw (← q, f)
 
   -- ALL OF THEM, and no word more
@@ -115,5 +113,5 @@ module _ {l : List ℕ} {at : ℕ} {mosts values : List ℕ} {from i : ℕ} {w :
       }
     where
       go : (s : List ℕ) → part (w .from) (w .to) l ≡ s → wrong (i + 1) [] (words (drop from l)) ≡ i + 1
-      go [] q = absurd (e (let z : w .to - w .from ≡ 0 = sym (size-of l (w .from) (w .to) (nx .within)) ∙ ap length q in omega (arith, nx .ordered)))
+      go [] q = absurd (e (same-places nx q))
       go (b ∷ bs) q = ap (wrong (i + 1) []) (nx .first ∙ ap (λ t. ended t (words (drop (w .to) l))) q)

@@ -55,7 +55,8 @@ pub onward : (l : List ℕ) (f : ℕ) → part f (length l) l ≡ drop f l
 onward l f = take-all (length l - f) (drop f l) (omega (arith, length-drop f l))
 
 -- THE FIRST WORD from a place on
-pub next-word : (l : List ℕ) (at a b : ℕ) (r : Word) → at + a ≤ length l → at + a + b ≤ length l → a ≡ indexOf (stopsAt Solid) (drop at l) → b ≡ indexOf (stopsAt Blank) (drop (at + a) l)
+pub next-word : (l : List ℕ) (at a b : ℕ) (r : Word) → at + a ≤ length l → at + a + b ≤ length l
+    → a ≡ indexOf (stopsAt Solid) (drop at l) → b ≡ indexOf (stopsAt Blank) (drop (at + a) l)
     → r .from ≡ at + a → r .to ≡ at + a + b → Next l at r
 unfolding words
 next-word l at a b r h k d e f g =
@@ -79,7 +80,7 @@ module _ {l : List ℕ} {at : ℕ} {w : Word} (nx : Next l at w) where
   no-word e =
       nx .first ∙ ap (λ t. ended (part (w .from) (w .to) l) (words t)) (nx .last e) ∙ ap (λ f. ended (part f (w .to) l) []) e ∙ rw (let z : w .to - w .to ≡ 0 = omega arith in z)
 
-  same-places : part (w .from) (w .to) l ≡ [] → w .from ≡ w .to
+  pub same-places : part (w .from) (w .to) l ≡ [] → w .from ≡ w .to
   same-places q =
       let z : w .to - w .from ≡ 0 = sym (length-take-le (w .to - w .from) (drop (w .from) l) (omega (arith, length-drop (w .from) l, nx .within))) ∙ ap length q in
       omega (arith, nx .ordered)

@@ -54,7 +54,9 @@ loop-again : tie.Need-loop-again Inv-loop μ-loop
 loop-again c =
     let l = c .before .before .before .loop in
     let a = c .before .before .before .before .before .before .before .args in
-    (omega arith, omega arith, simp length-set (l .inv .2), ap (set (l .text) (a .at + l .i)) (c .guard .ensures) ∙ ap (λ m. set m (a .at + l .i) (guarded (getD (a .bytes .now) (l .i) 0))) (l .inv .3) ∙ guarded-more (a .text .now) (a .bytes .now) (a .at) (l .i) (omega arith))
+    let byte = guarded (getD (a .bytes .now) (l .i) 0) in
+    let stored = ap (set (l .text) (a .at + l .i)) (c .guard .ensures) ∙ ap (λ m. set m (a .at + l .i) byte) (l .inv .3) in
+    (omega arith, omega arith, simp length-set (l .inv .2), stored ∙ guarded-more (a .text .now) (a .bytes .now) (a .at) (l .i) (omega arith))
 
 add-result-2 : tie.Need-add-result-2 Inv-loop μ-loop
 add-result-2 c = search needs

@@ -17,8 +17,12 @@ Inv-loop tick column tasks i₀ i =
 abbrev μ-loop : tie.MeasureT-loop
 μ-loop tick column tasks i₀ i = 7 - i
 
+-- there are seven tasks
+seven : (s : tie.Start Inv-loop μ-loop) → length (s .args .t1) ≡ 7
+seven s = search needs
+
 loop-holds : tie.Need-loop-holds Inv-loop μ-loop
-loop-holds c = (omega arith, c .good .0 .1 .0 .1, omega arith)
+loop-holds c = (omega arith, seven c, omega arith)
 
 mul-k : tie.Need-mul-k Inv-loop μ-loop
 mul-k c = search needs

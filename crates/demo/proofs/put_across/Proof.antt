@@ -50,7 +50,8 @@ loop-again c =
     let a = c .before .before .before .before .before .args in
     let square : ℕ → ℕ = λ k. mark (indexOf (holds (a .tick) k) (a .tasks)) in
     let here : l .column ≡ 1 + l .i = l .inv .1 in
-    (omega arith, omega arith, simp length-set (l .inv .2), draw-one square (a .line .now) (l .line) (a .at) (l .i) (l .inv .3) (c .mark-of .ensures ∙ ap mark (c .before .holder .ensures) ∙ ap square here))
+    let marked = c .mark-of .ensures ∙ ap mark (c .before .holder .ensures) ∙ ap square here in
+    (omega arith, omega arith, simp length-set (l .inv .2), draw-one square (a .line .now) (l .line) (a .at) (l .i) (l .inv .3) marked)
 
 same-length : tie.Need-same-length Inv-loop μ-loop
 same-length c = search needs

@@ -33,7 +33,10 @@ cast-t17 c = omega (arith, c .before .before .before .read-numbers .ensures .sma
 
 returns-2 : tie.Need-returns-2
 unfolding boardLine
-returns-2 c = said-right 1 1 (c .before .before .before .read-numbers .ensures .told) (c .before .if1 .left) (rw (c .before .before .before .read-numbers .ensures .read (c .before .if1 .left) 0 (omega arith), c .before .before .before .read-numbers .ensures .read (c .before .if1 .left) 1 (omega arith)))
+returns-2 c =
+    let n = c .before .before .before .read-numbers .ensures in
+    let z = c .before .if1 .left in
+    said-right 1 1 (n .told) z (rw (n .read z 0 (omega arith), n .read z 1 (omega arith)))
 
 pub board-line-spec : {M : Type 1} → statement M
 board-line-spec =

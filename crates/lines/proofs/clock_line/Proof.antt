@@ -26,7 +26,10 @@ array-read-t12 c = search needs
 
 returns-2 : tie.Need-returns-2
 unfolding clockLine
-returns-2 c = said-right 3 1 (c .before .before .before .read-numbers .ensures .told) (c .before .if1 .left) (ap Clock (c .before .before .before .read-numbers .ensures .read (c .before .if1 .left) 0 (omega arith)))
+returns-2 c =
+    let n = c .before .before .before .read-numbers .ensures in
+    let z = c .before .if1 .left in
+    said-right 3 1 (n .told) z (ap Clock (n .read z 0 (omega arith)))
 
 pub clock-line-spec : {M : Type 1} → statement M
 clock-line-spec =

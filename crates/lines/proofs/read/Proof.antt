@@ -1,5 +1,5 @@
 -- `lines::read` meets its contract. Assumes nothing.
-use Prim.Native.Nat.{_-_}
+use Prim.Native.Nat.{_-_, _≤_}
 use mathlib.Core.Path.{_≡_, ap, _∙_}
 use native.Mathlib.Omega.{arith}
 use lib.Seq.{length-take-le}
@@ -39,7 +39,15 @@ said-requires c κs = search needs
 
 returns : tie.Need-returns
 unfolding says
-returns c = let l = c .before .before .before .before .before .before .args .line .now in let n = c .before .before .before .before .less-return in let f = c .before .before .find in let m : n .result - 0 ≡ n .result = omega arith in let e : f .result - 0 ≡ f .result = omega arith in c .said .ensures ∙ ap (λ t. saidBy (firstWord (words t)) (otherWords (words t))) (rw e (before-comment l (n .result) (f .result) (n .ensures .0) (rw m at (f .ensures .0)) (omega (arith, f .ensures .1, length-take-le (n .result - 0) l (omega (arith, n .ensures .1))))))
+returns c =
+    let l = c .before .before .before .before .before .before .args .line .now in
+    let n = c .before .before .before .before .less-return in
+    let f = c .before .before .find in
+    let m : n .result - 0 ≡ n .result = omega arith in
+    let e : f .result - 0 ≡ f .result = omega arith in
+    let within : f .result ≤ n .result = omega (arith, f .ensures .1, length-take-le (n .result - 0) l (omega (arith, n .ensures .1))) in
+    let stands = before-comment l (n .result) (f .result) (n .ensures .0) (rw m at (f .ensures .0)) within in
+    c .said .ensures ∙ ap (λ t. saidBy (firstWord (words t)) (otherWords (words t))) (rw e stands)
 
 pub read-spec : {M : Type 1} → statement M
 read-spec =

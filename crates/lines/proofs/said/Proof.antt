@@ -1,11 +1,72 @@
 -- `lines::said` meets its contract. Assumes nothing.
-use mathlib.Core.Path.{sym, _∙_}
+use Prim.Native.Nat.{ℕ}
+use mathlib.Core.Path.{_≡_, sym, _∙_}
+use mathlib.Core.Bool.{true, false}
+use mathlib.Core.List.{List}
+use lib.ListN.{drop}
+use Rattle.wording.specs.Wording.{words, firstWord, otherWords, same, empty}
+use Rattle.wording.specs.Walks.{part}
 use Rattle.wording.proofs.Walking.{a-word}
-use Rattle.lines.specs.Lines.{saidBy}
+use Rattle.lines.specs.Lines.{saidBy, boardName, submitName, clockName, withdrawName}
 use Rattle.lines.proofs.Saying.{said-nothing, said-board, said-submit, said-clock, said-withdraw, said-other}
 use borrow.Author.Needs.{needs}
 use Rattle.lines.proofs.said.Statement.{statement}
 use Rattle.lines.proofs.said.Tie as tie
+
+-- THE FIRST WORD of the text, and those behind it, where it was read
+abbrev text : tie.After-next → List ℕ
+text c = c .before .before .args .text .now
+
+abbrev name : tie.After-next → List ℕ
+name c = part (c .next .result .from) (c .next .result .to) (text c)
+
+abbrev behind : tie.After-next → List (List ℕ)
+behind c = words (drop (c .next .result .to) (text c))
+
+-- what these say is what the text says
+by-word : (c : tie.After-next) → saidBy (name c) (behind c) ≡ saidBy (firstWord (words (text c))) (otherWords (words (text c)))
+by-word c = sym (a-word (c .next .ensures) saidBy)
+
+-- the tests, one behind the other: where each was left, from where the next one was
+abbrev else1 : tie.Else2 → tie.Else1
+else1 c = c .before .before .before
+
+abbrev else2 : tie.Else3 → tie.Else2
+else2 c = c .before .before .before
+
+abbrev else3 : tie.Else4 → tie.Else3
+else3 c = c .before .before .before
+
+abbrev else4 : tie.Else5 → tie.Else4
+else4 c = c .before .before .before
+
+abbrev read1 : tie.Else1 → tie.After-next
+read1 c = c .before .before .before
+
+abbrev read2 : tie.Else2 → tie.After-next
+read2 c = read1 (else1 c)
+
+abbrev read3 : tie.Else3 → tie.After-next
+read3 c = read2 (else2 c)
+
+abbrev read4 : tie.Else4 → tie.After-next
+read4 c = read3 (else3 c)
+
+-- what each test that was left says of the word
+not-empty : (c : tie.Else1) → empty (name (read1 c)) ≡ false
+not-empty c = sym (c .before .is-empty .ensures) ∙ c .if1 .left
+
+not-board : (c : tie.Else2) → same (name (read2 c)) boardName ≡ false
+not-board c = sym (c .before .is-name .ensures) ∙ c .if2 .left
+
+not-submit : (c : tie.Else3) → same (name (read3 c)) submitName ≡ false
+not-submit c = sym (c .before .is-name2 .ensures) ∙ c .if3 .left
+
+not-clock : (c : tie.Else4) → same (name (read4 c)) clockName ≡ false
+not-clock c = sym (c .before .is-name3 .ensures) ∙ c .if4 .left
+
+not-withdraw : (c : tie.Else5) → same (name (read4 (else4 c))) withdrawName ≡ false
+not-withdraw c = sym (c .before .is-name4 .ensures) ∙ c .if5 .left
 
 next-requires : tie.Need-next-requires
 next-requires c κs = search needs
@@ -23,7 +84,9 @@ is-empty-requires : tie.Need-is-empty-requires
 is-empty-requires c κs = search needs
 
 returns : tie.Need-returns
-returns c = said-nothing _ _ (sym (c .before .is-empty .ensures) ∙ c .if1 .taken) ∙ sym (a-word (c .before .before .before .next .ensures) saidBy)
+returns c =
+    let none : empty (name (c .before .before .before)) ≡ true = sym (c .before .is-empty .ensures) ∙ c .if1 .taken in
+    said-nothing _ _ none ∙ by-word (c .before .before .before)
 
 slice-aggregate-is-name : tie.Need-slice-aggregate-is-name
 slice-aggregate-is-name c = search needs
@@ -35,7 +98,10 @@ board-line-requires : tie.Need-board-line-requires
 board-line-requires c κs = search needs
 
 returns-2 : tie.Need-returns-2
-returns-2 c = c .board-line .ensures ∙ said-board _ _ (sym (c .before .before .before .before .before .is-empty .ensures) ∙ c .before .before .before .before .if1 .left) (sym (c .before .before .is-name .ensures) ∙ c .before .if2 .taken) ∙ sym (a-word (c .before .before .before .before .before .before .before .next .ensures) saidBy)
+returns-2 c =
+    let e1 = c .before .before .before .before in
+    let yes : same (name (read1 e1)) boardName ≡ true = sym (c .before .before .is-name .ensures) ∙ c .before .if2 .taken in
+    c .board-line .ensures ∙ said-board _ _ (not-empty e1) yes ∙ by-word (read1 e1)
 
 slice-aggregate-is-name-2 : tie.Need-slice-aggregate-is-name-2
 slice-aggregate-is-name-2 c = search needs
@@ -47,7 +113,11 @@ submit-line-requires : tie.Need-submit-line-requires
 submit-line-requires c κs = search needs
 
 returns-3 : tie.Need-returns-3
-returns-3 c = c .submit-line .ensures ∙ said-submit _ _ (sym (c .before .before .before .before .before .before .before .before .is-empty .ensures) ∙ c .before .before .before .before .before .before .before .if1 .left) (sym (c .before .before .before .before .before .is-name .ensures) ∙ c .before .before .before .before .if2 .left) (sym (c .before .before .is-name2 .ensures) ∙ c .before .if3 .taken) ∙ sym (a-word (c .before .before .before .before .before .before .before .before .before .before .next .ensures) saidBy)
+returns-3 c =
+    let e2 = c .before .before .before .before in
+    let e1 = else1 e2 in
+    let yes : same (name (read2 e2)) submitName ≡ true = sym (c .before .before .is-name2 .ensures) ∙ c .before .if3 .taken in
+    c .submit-line .ensures ∙ said-submit _ _ (not-empty e1) (not-board e2) yes ∙ by-word (read2 e2)
 
 slice-aggregate-is-name-3 : tie.Need-slice-aggregate-is-name-3
 slice-aggregate-is-name-3 c = search needs
@@ -59,7 +129,12 @@ clock-line-requires : tie.Need-clock-line-requires
 clock-line-requires c κs = search needs
 
 returns-4 : tie.Need-returns-4
-returns-4 c = c .clock-line .ensures ∙ said-clock _ _ (sym (c .before .before .before .before .before .before .before .before .before .before .before .is-empty .ensures) ∙ c .before .before .before .before .before .before .before .before .before .before .if1 .left) (sym (c .before .before .before .before .before .before .before .before .is-name .ensures) ∙ c .before .before .before .before .before .before .before .if2 .left) (sym (c .before .before .before .before .before .is-name2 .ensures) ∙ c .before .before .before .before .if3 .left) (sym (c .before .before .is-name3 .ensures) ∙ c .before .if4 .taken) ∙ sym (a-word (c .before .before .before .before .before .before .before .before .before .before .before .before .before .next .ensures) saidBy)
+returns-4 c =
+    let e3 = c .before .before .before .before in
+    let e2 = else2 e3 in
+    let e1 = else1 e2 in
+    let yes : same (name (read3 e3)) clockName ≡ true = sym (c .before .before .is-name3 .ensures) ∙ c .before .if4 .taken in
+    c .clock-line .ensures ∙ said-clock _ _ (not-empty e1) (not-board e2) (not-submit e3) yes ∙ by-word (read3 e3)
 
 slice-aggregate-is-name-4 : tie.Need-slice-aggregate-is-name-4
 slice-aggregate-is-name-4 c = search needs
@@ -71,10 +146,21 @@ withdraw-line-requires : tie.Need-withdraw-line-requires
 withdraw-line-requires c κs = search needs
 
 returns-5 : tie.Need-returns-5
-returns-5 c = c .withdraw-line .ensures ∙ said-withdraw _ _ (sym (c .before .before .before .before .before .before .before .before .before .before .before .before .before .before .is-empty .ensures) ∙ c .before .before .before .before .before .before .before .before .before .before .before .before .before .if1 .left) (sym (c .before .before .before .before .before .before .before .before .before .before .before .is-name .ensures) ∙ c .before .before .before .before .before .before .before .before .before .before .if2 .left) (sym (c .before .before .before .before .before .before .before .before .is-name2 .ensures) ∙ c .before .before .before .before .before .before .before .if3 .left) (sym (c .before .before .before .before .before .is-name3 .ensures) ∙ c .before .before .before .before .if4 .left) (sym (c .before .before .is-name4 .ensures) ∙ c .before .if5 .taken) ∙ sym (a-word (c .before .before .before .before .before .before .before .before .before .before .before .before .before .before .before .before .next .ensures) saidBy)
+returns-5 c =
+    let e4 = c .before .before .before .before in
+    let e3 = else3 e4 in
+    let e2 = else2 e3 in
+    let e1 = else1 e2 in
+    let yes : same (name (read4 e4)) withdrawName ≡ true = sym (c .before .before .is-name4 .ensures) ∙ c .before .if5 .taken in
+    c .withdraw-line .ensures ∙ said-withdraw _ _ (not-empty e1) (not-board e2) (not-submit e3) (not-clock e4) yes ∙ by-word (read4 e4)
 
 returns-6 : tie.Need-returns-6
-returns-6 c = said-other _ _ (sym (c .before .before .before .before .before .before .before .before .before .before .before .before .before .is-empty .ensures) ∙ c .before .before .before .before .before .before .before .before .before .before .before .before .if1 .left) (sym (c .before .before .before .before .before .before .before .before .before .before .is-name .ensures) ∙ c .before .before .before .before .before .before .before .before .before .if2 .left) (sym (c .before .before .before .before .before .before .before .is-name2 .ensures) ∙ c .before .before .before .before .before .before .if3 .left) (sym (c .before .before .before .before .is-name3 .ensures) ∙ c .before .before .before .if4 .left) (sym (c .before .is-name4 .ensures) ∙ c .if5 .left) ∙ sym (a-word (c .before .before .before .before .before .before .before .before .before .before .before .before .before .before .before .next .ensures) saidBy)
+returns-6 c =
+    let e4 = else4 c in
+    let e3 = else3 e4 in
+    let e2 = else2 e3 in
+    let e1 = else1 e2 in
+    said-other _ _ (not-empty e1) (not-board e2) (not-submit e3) (not-clock e4) (not-withdraw c) ∙ by-word (read4 e4)
 
 pub said-spec : {M : Type 1} → statement M
 said-spec =

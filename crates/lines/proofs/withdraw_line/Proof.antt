@@ -26,7 +26,10 @@ array-read-t12 c = search needs
 
 returns-2 : tie.Need-returns-2
 unfolding withdrawLine
-returns-2 c = said-right 4 1 (c .before .before .before .read-numbers .ensures .told) (c .before .if1 .left) (ap Withdraw (c .before .before .before .read-numbers .ensures .read (c .before .if1 .left) 0 (omega arith)))
+returns-2 c =
+    let n = c .before .before .before .read-numbers .ensures in
+    let z = c .before .if1 .left in
+    said-right 4 1 (n .told) z (ap Withdraw (n .read z 0 (omega arith)))
 
 pub withdraw-line-spec : {M : Type 1} → statement M
 withdraw-line-spec =

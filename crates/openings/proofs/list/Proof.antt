@@ -1,5 +1,5 @@
 -- `openings::list` meets its contract: at each pair of the walk, all that comes after it is still to be written. Assumes nothing.
-use Prim.Native.Nat.{_+_, _-_, _*_, _/_}
+use Prim.Native.Nat.{_+_, _-_, _*_, _/_, _≤_}
 use mathlib.Core.Path.{_≡_, refl}
 use native.Mathlib.Omega.{arith}
 use lib.ListN.{length}
@@ -7,6 +7,8 @@ use Rattle.held.proofs.Free.{run-end}
 use Rattle.openings.proofs.Writing.{same-room}
 use Rattle.openings.proofs.Listing.{At, further, later-tick, next-later, list-late, list-begin, list-live, list-run, list-full, list-done, list-next, list-after, list-fresh}
 use borrow.Author.Needs.{needs}
+use mir.Syntax.{w64}
+use mir.Val.{Fits}
 use Rattle.openings.proofs.list.Statement.{statement}
 use Rattle.openings.proofs.list.Tie as tie
 
@@ -17,6 +19,23 @@ Inv-walk live masks count q s c buffer₀ last t₀ column₀ edge live-now₀ w
 abbrev μ-walk : tie.MeasureT-walk
 μ-walk live masks count q s c buffer₀ last t₀ column₀ edge live-now₀ words₀ until₀ room n₀ buffer t column live-now words until n =
     (q .d - t) * 257 + (256 - column)
+
+-- where the function began, from where the walk stands; and that the buffer's length fits
+abbrev startOf : tie.At-walk Inv-walk μ-walk → tie.Start Inv-walk μ-walk
+startOf at = at .before .before .before .before .before .before .before .before .before .before
+
+buffer-fits : (s : tie.Start Inv-walk μ-walk) → Fits w64 (length (s .args .buffer .now))
+buffer-fits s = search needs
+
+-- where the end of a free run was found, behind its beginning: the task's columns end by it
+abbrev End : Type 0
+End = tie.After-next-set Inv-walk μ-walk
+
+abbrev firstOf : End → tie.After-first-free Inv-walk μ-walk
+firstOf n = n .before .before .before
+
+run-fits : (n : End) → firstOf n .first-free .result + startOf (firstOf n .before) .args .q .w ≤ n .next-set .result
+run-fits n = run-end (firstOf n .first-free .ensures) (omega arith) (n .next-set .ensures)
 
 sub-last : tie.Need-sub-last Inv-walk μ-walk
 sub-last c = search needs
@@ -68,11 +87,7 @@ next-set-requires c κs =
     (omega arith, omega (arith, g .clear (omega arith) .fits))
 
 sub-stop : tie.Need-sub-stop Inv-walk μ-walk
-sub-stop c =
-    let n = c .before in
-    let g = n .before .before .before .first-free .ensures in
-    let e = run-end g (omega arith) (n .next-set .ensures) in
-    omega (arith, e)
+sub-stop c = omega (arith, run-fits (c .before))
 
 add-stop : tie.Need-add-stop Inv-walk μ-walk
 add-stop c = search needs
@@ -81,25 +96,18 @@ sub-stop-2 : tie.Need-sub-stop-2 Inv-walk μ-walk
 sub-stop-2 c = search needs
 
 stop-requires : tie.Need-stop-requires Inv-walk μ-walk
-stop-requires c κs =
-    let n = c .before in
-    let g = n .before .before .before .first-free .ensures in
-    let e = run-end g (omega arith) (n .next-set .ensures) in
-    omega (arith, e)
+stop-requires c κs = omega (arith, run-fits (c .before))
 
 mul-put-run : tie.Need-mul-put-run Inv-walk μ-walk
 mul-put-run c =
     let at = c .before .before .before .before .before .before .before in
-    let st = at .before .before .before .before .before .before .before .before .before .before in
-    omega (arith, at .walk .inv .0, st .good .1 .1 .1 .1 .1 .1 .0 .1)
+    omega (arith, at .walk .inv .0, buffer-fits (startOf at))
 
 put-run-requires : tie.Need-put-run-requires Inv-walk μ-walk
 put-run-requires c κs =
     let n = c .before .before .before in
-    let first = n .before .before .before in
-    let at = first .before in
-    let g = first .first-free .ensures in
-    let e = run-end g (omega arith) (n .next-set .ensures) in
+    let at = firstOf n .before in
+    let e = run-fits n in
     (omega (arith, c .before .stop .ensures), omega (arith, c .before .stop .ensures, at .walk .inv .0, same-room (at .walk .inv .1 .written)))
 
 sub-n : tie.Need-sub-n Inv-walk μ-walk
@@ -111,13 +119,10 @@ cast-n c = search needs
 add-n : tie.Need-add-n Inv-walk μ-walk
 add-n c =
     let n = c .before .before .before .before .before .before in
-    let first = n .before .before .before in
-    let at = first .before in
-    let g = first .first-free .ensures in
-    let e = run-end g (omega arith) (n .next-set .ensures) in
+    let at = firstOf n .before in
+    let e = run-fits n in
     let to = c .before .before .before .before .stop .ensures in
-    let st = at .before .before .before .before .before .before .before .before .before .before in
-    omega (arith, to, at .walk .inv .0, st .good .1 .1 .1 .1 .1 .1 .0 .1)
+    omega (arith, to, at .walk .inv .0, buffer-fits (startOf at))
 
 sub-column : tie.Need-sub-column Inv-walk μ-walk
 sub-column c = search needs
@@ -125,22 +130,22 @@ sub-column c = search needs
 walk-less : tie.Need-walk-less Inv-walk μ-walk
 walk-less c =
     let n = c .before .before .before .before .before .before in
-    let first = n .before .before .before in
+    let first = firstOf n in
     let at = first .before in
     let g = first .first-free .ensures in
-    let e = run-end g (omega arith) (n .next-set .ensures) in
+    let e = run-fits n in
     let to = c .before .before .before .before .stop .ensures in
-    let w = at .before .before .before .before .before .before .before .before .before .before .pre .1 .wide in
+    let w = startOf at .pre .1 .wide in
     further _ _ _ _ (omega (arith, to, g .after (omega arith))) (omega (arith, to, e, n .next-set .ensures .high, w))
 
 walk-again : tie.Need-walk-again Inv-walk μ-walk
 walk-again c =
     let n = c .before .before .before .before .before .before in
-    let first = n .before .before .before in
+    let first = firstOf n in
     let at = first .before in
     let g = first .first-free .ensures in
-    let e = run-end g (omega arith) (n .next-set .ensures) in
-    let st = at .before .before .before .before .before .before .before .before .before .before in
+    let e = run-fits n in
+    let st = startOf at in
     let to = c .before .before .before .before .stop .ensures in (
       at .walk .inv .0,
       list-run _ _ _ _ _ _ (st .pre .0 .device) (st .pre .1) (at .walk .inv .1) g (omega arith) (n .next-set .ensures) (omega (arith, to)) (omega (arith, to))
@@ -163,14 +168,14 @@ held-words-requires-2 c κs =
 next-change-requires-2 : tie.Need-next-change-requires-2 Inv-walk μ-walk
 next-change-requires-2 c κs =
     let at = c .before .before .before .before .before .before .before in
-    let st = at .before .before .before .before .before .before .before .before .before .before in
+    let st = startOf at in
     (omega (arith, c .before .after2 .ensures .few), st .pre .1 .long, omega (arith, st .pre .1 .until, c .before .before .before .if4 .left))
 
 walk-less-2 : tie.Need-walk-less-2 Inv-walk μ-walk
 walk-less-2 c =
     let tick = c .before .before .before .before .before in
     let at = tick .before .before .before in
-    let st = at .before .before .before .before .before .before .before .before .before .before in
+    let st = startOf at in
     let a = st .args in
     let f = list-live _ _ _ _ _ _ (st .pre .0 .device) (st .pre .1) (at .walk .inv .1) in
     later-tick _ _ _ _ (next-later (tick .next-tick .ensures (a .count) (st .pre .0 .falling) f)) (omega arith)
@@ -180,7 +185,7 @@ walk-again-2 c =
     let tick = c .before .before .before .before .before in
     let first = tick .before .before in
     let at = first .before in
-    let st = at .before .before .before .before .before .before .before .before .before .before in
+    let st = startOf at in
     let a = st .args in
     let m = at .walk .inv .1 in
     let f = list-live _ _ _ _ _ _ (st .pre .0 .device) (st .pre .1) m in
@@ -195,7 +200,7 @@ walk-less-3 : tie.Need-walk-less-3 Inv-walk μ-walk
 walk-less-3 c =
     let tick = c .before .before in
     let at = tick .before .before .before in
-    let st = at .before .before .before .before .before .before .before .before .before .before in
+    let st = startOf at in
     let a = st .args in
     let f = list-live _ _ _ _ _ _ (st .pre .0 .device) (st .pre .1) (at .walk .inv .1) in
     later-tick _ _ _ _ (next-later (tick .next-tick .ensures (a .count) (st .pre .0 .falling) f)) (omega arith)
@@ -205,7 +210,7 @@ walk-again-3 c =
     let tick = c .before .before in
     let first = tick .before .before in
     let at = first .before in
-    let st = at .before .before .before .before .before .before .before .before .before .before in
+    let st = startOf at in
     let a = st .args in
     let m = at .walk .inv .1 in
     let f = list-live _ _ _ _ _ _ (st .pre .0 .device) (st .pre .1) m in
@@ -219,7 +224,7 @@ returns-2 : tie.Need-returns-2 Inv-walk μ-walk
 returns-2 c =
     let first = c .before .before in
     let at = first .before in
-    let st = at .before .before .before .before .before .before .before .before .before .before in
+    let st = startOf at in
     list-full _ _ _ _ _ _ (st .pre .0 .device) (st .pre .1) (at .walk .inv .1) (first .first-free .ensures) (omega arith) (omega (arith, at .walk .inv .0))
 
 same-length-2 : tie.Need-same-length-2 Inv-walk μ-walk
@@ -230,7 +235,7 @@ returns-3 c =
     let tick = c .before in
     let first = tick .before .before in
     let at = first .before in
-    let st = at .before .before .before .before .before .before .before .before .before .before in
+    let st = startOf at in
     let a = st .args in
     let m = at .walk .inv .1 in
     let f = list-live _ _ _ _ _ _ (st .pre .0 .device) (st .pre .1) m in

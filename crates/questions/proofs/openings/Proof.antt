@@ -1,11 +1,36 @@
 -- `questions::openings` meets its contract. Assumes nothing.
-use mathlib.Core.Path.{_∙_}
+use Prim.Native.Nat.{ℕ}
+use mathlib.Core.Path.{_≡_, _∙_}
+use mathlib.Core.List.{List, [], _∷_}
 use native.Mathlib.Omega.{arith}
-use Rattle.questions.specs.Questions.{openingsAsked, taskOf}
+use lib.ListN.{drop}
+use Rattle.wording.specs.Wording.{words}
+use Rattle.questions.specs.declared.Question.{Question}
+use Rattle.questions.specs.Questions.{rightOr, openingsAsked, taskOf}
 use Rattle.questions.proofs.Asking.{right-yes, right-no}
 use borrow.Author.Needs.{needs}
 use Rattle.questions.proofs.openings.Statement.{statement}
 use Rattle.questions.proofs.openings.Tie as tie
+
+-- the words behind the name, where four numbers were read, and where six were
+abbrev wordsOf : tie.Start → List (List ℕ)
+wordsOf s = words (drop (s .args .at) (s .args .text .now))
+
+abbrev start1 : tie.Else1 → tie.Start
+start1 c = c .before .before .before .before .before .before
+
+abbrev else1 : tie.Else2 → tie.Else1
+else1 c = c .before .before .before .before .before
+
+-- they are not four numbers: what is asked is what six or seven ask
+not-four : (c : tie.Else1) (four : Question) {other : Question}
+    → other ≡ rightOr (65535 ∷ 65535 ∷ 4294967295 ∷ 4294967295 ∷ []) (wordsOf (start1 c)) four other
+not-four c four = right-no _ _ four (c .before .before .read-numbers .ensures .told) (c .if1 .left)
+
+-- they are not six: what is asked is what seven ask
+not-six : (c : tie.Else2) (six : Question) {other : Question}
+    → other ≡ rightOr (65535 ∷ 65535 ∷ 4294967295 ∷ 4294967295 ∷ 4294967295 ∷ 65535 ∷ []) (wordsOf (start1 (else1 c))) six other
+not-six c six = right-no _ _ six (c .before .before .read-numbers2 .ensures .told) (c .if2 .left)
 
 sub-read-numbers : tie.Need-sub-read-numbers
 sub-read-numbers c = search needs
@@ -39,7 +64,11 @@ array-read-t32 c = search needs
 
 returns : tie.Need-returns
 unfolding openingsAsked taskOf
-returns c = right-yes _ _ _ (c .before .before .before .read-numbers .ensures .told) (c .before .if1 .taken) (rw (c .before .before .before .read-numbers .ensures .read (c .before .if1 .taken) 0 (omega arith), c .before .before .before .read-numbers .ensures .read (c .before .if1 .taken) 1 (omega arith), c .before .before .before .read-numbers .ensures .read (c .before .if1 .taken) 2 (omega arith), c .before .before .before .read-numbers .ensures .read (c .before .if1 .taken) 3 (omega arith)))
+returns c =
+    let n = c .before .before .before .read-numbers .ensures in
+    let z = c .before .if1 .taken in
+    let m = n .read z in
+    right-yes _ _ _ (n .told) z (rw (m 0 (omega arith), m 1 (omega arith), m 2 (omega arith), m 3 (omega arith)))
 
 sub-read-numbers-2 : tie.Need-sub-read-numbers-2
 sub-read-numbers-2 c = search needs
@@ -82,7 +111,13 @@ cast-t40-2 c = omega (arith, c .before .before .before .read-numbers2 .ensures .
 
 returns-2 : tie.Need-returns-2
 unfolding openingsAsked taskOf
-returns-2 c = right-yes _ _ _ (c .before .before .before .read-numbers2 .ensures .told) (c .before .if2 .taken) (rw (c .before .before .before .read-numbers2 .ensures .read (c .before .if2 .taken) 0 (omega arith), c .before .before .before .read-numbers2 .ensures .read (c .before .if2 .taken) 1 (omega arith), c .before .before .before .read-numbers2 .ensures .read (c .before .if2 .taken) 2 (omega arith), c .before .before .before .read-numbers2 .ensures .read (c .before .if2 .taken) 3 (omega arith), c .before .before .before .read-numbers2 .ensures .read (c .before .if2 .taken) 4 (omega arith), c .before .before .before .read-numbers2 .ensures .read (c .before .if2 .taken) 5 (omega arith))) ∙ right-no _ _ _ (c .before .before .before .before .before .before .before .before .read-numbers .ensures .told) (c .before .before .before .before .before .before .if1 .left)
+returns-2 c =
+    let e1 = c .before .before .before .before .before .before in
+    let n = c .before .before .before .read-numbers2 .ensures in
+    let z = c .before .if2 .taken in
+    let m = n .read z in
+    right-yes _ _ _ (n .told) z (rw (m 0 (omega arith), m 1 (omega arith), m 2 (omega arith), m 3 (omega arith), m 4 (omega arith), m 5 (omega arith)))
+    ∙ not-four e1 _
 
 slice-aggregate-read-numbers : tie.Need-slice-aggregate-read-numbers
 slice-aggregate-read-numbers c = search needs
@@ -122,11 +157,20 @@ array-read-t67-2 c = search needs
 
 returns-3 : tie.Need-returns-3
 unfolding openingsAsked taskOf
-returns-3 c = right-yes _ _ _ (c .before .before .before .read-numbers3 .ensures .told) (c .before .if3 .taken) (rw (c .before .before .before .read-numbers3 .ensures .read (c .before .if3 .taken) 0 (omega arith), c .before .before .before .read-numbers3 .ensures .read (c .before .if3 .taken) 1 (omega arith), c .before .before .before .read-numbers3 .ensures .read (c .before .if3 .taken) 2 (omega arith), c .before .before .before .read-numbers3 .ensures .read (c .before .if3 .taken) 3 (omega arith), c .before .before .before .read-numbers3 .ensures .read (c .before .if3 .taken) 4 (omega arith), c .before .before .before .read-numbers3 .ensures .read (c .before .if3 .taken) 5 (omega arith), c .before .before .before .read-numbers3 .ensures .read (c .before .if3 .taken) 6 (omega arith))) ∙ right-no _ _ _ (c .before .before .before .before .before .before .before .read-numbers2 .ensures .told) (c .before .before .before .before .before .if2 .left) ∙ right-no _ _ _ (c .before .before .before .before .before .before .before .before .before .before .before .before .read-numbers .ensures .told) (c .before .before .before .before .before .before .before .before .before .before .if1 .left)
+returns-3 c =
+    let e2 = c .before .before .before .before .before in
+    let n = c .before .before .before .read-numbers3 .ensures in
+    let z = c .before .if3 .taken in
+    let m = n .read z in
+    right-yes _ _ _ (n .told) z
+    (rw (m 0 (omega arith), m 1 (omega arith), m 2 (omega arith), m 3 (omega arith), m 4 (omega arith), m 5 (omega arith), m 6 (omega arith)))
+    ∙ not-six e2 _ ∙ not-four (else1 e2) _
 
 returns-4 : tie.Need-returns-4
 unfolding openingsAsked taskOf
-returns-4 c = right-no _ _ _ (c .before .before .read-numbers3 .ensures .told) (c .if3 .left) ∙ right-no _ _ _ (c .before .before .before .before .before .before .read-numbers2 .ensures .told) (c .before .before .before .before .if2 .left) ∙ right-no _ _ _ (c .before .before .before .before .before .before .before .before .before .before .before .read-numbers .ensures .told) (c .before .before .before .before .before .before .before .before .before .if1 .left)
+returns-4 c =
+    let e2 = c .before .before .before .before in
+    right-no _ _ _ (c .before .before .read-numbers3 .ensures .told) (c .if3 .left) ∙ not-six e2 _ ∙ not-four (else1 e2) _
 
 pub openings-spec : {M : Type 1} → statement M
 openings-spec =

@@ -1,6 +1,6 @@
 -- `record::put` meets its contract. Assumes nothing.
 use Prim.Native.Nat.{_-_, _≤_}
-use mathlib.Core.Path.{sym, _∙_}
+use mathlib.Core.Path.{_≡_, sym, _∙_}
 use native.Mathlib.Omega.{arith}
 use lib.ListN.{length, take, drop, length-drop}
 use lib.Seq.{length-take-le}
@@ -37,7 +37,15 @@ same-length-2 : tie.Need-same-length-2
 same-length-2 c = search needs
 
 returns-2 : tie.Need-returns-2
-returns-2 c = let a = c .before .before .before .before .before .before .before .before .args in let l = a .out .now in let fits : c .before .w .given .0 .0 ≤ length (take (length l - a .used) (drop (a .used) l)) = length-most (a .event) (length (take (length l - a .used) (drop (a .used) l))) (c .before .w .given .0 .0) (sym (c .before .w .given .1) ∙ c .before .before .before .before .before .write .ensures .0) in omega (arith, length-take-le (length l - a .used) (drop (a .used) l) (omega (arith, length-drop (a .used) l)))
+returns-2 c =
+    let a = c .before .before .before .before .before .before .before .before .args in
+    let l = a .out .now in
+    let part = take (length l - a .used) (drop (a .used) l) in
+    let size : length part ≡ length l - a .used = length-take-le (length l - a .used) (drop (a .used) l) (omega (arith, length-drop (a .used) l)) in
+    let n = c .before .w .given .0 .0 in
+    let written = sym (c .before .w .given .1) ∙ c .before .before .before .before .before .write .ensures .0 in
+    let fits : n ≤ length part = length-most (a .event) (length part) n written in
+    omega arith
 
 pub put-spec : {M : Type 1} → statement M
 put-spec =

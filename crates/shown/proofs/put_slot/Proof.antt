@@ -20,7 +20,8 @@ same-length c = search needs
 returns : tie.Need-returns
 returns c =
     let p = c .before .before .put-task .ensures in
-    let yes : live (c .before .before .before .before .before .before .before .args .k) ≡ true = sym (c .before .before .before .before .before .is-live .ensures) ∙ c .before .before .before .before .if1 .taken in
+    let t = c .before .before .before .before in
+    let yes : live (t .before .before .before .args .k) ≡ true = sym (t .before .is-live .ensures) ∙ t .if1 .taken in
     (rw yes (p .0), p .1)
 
 returns-2 : tie.Need-returns-2

@@ -42,7 +42,9 @@ returns c =
     let numbers = c .before .before .before .before .before .before .before .before .before .before .put-spaced .ensures .0 in
     let ends = c .before .before .before .before .before .before .put-finish .ensures .0 in
     let word = line-end (phaseWord (k .phase)) (c .before .before .put-phase .ensures .0) in
-    (line-rest (a .slot ∷ k .id ∷ k .w ∷ k .h ∷ k .e ∷ k .d ∷ k .column ∷ k .start ∷ []) (decimal (finish k)) (phaseWord (k .phase) ∷ []) numbers (line-more (decimal (finish k)) (phaseWord (k .phase)) [] ends word), omega arith)
+    let rest = line-more (decimal (finish k)) (phaseWord (k .phase)) [] ends word in
+    let front = a .slot ∷ k .id ∷ k .w ∷ k .h ∷ k .e ∷ k .d ∷ k .column ∷ k .start ∷ [] in
+    (line-rest front (decimal (finish k)) (phaseWord (k .phase) ∷ []) numbers rest, omega arith)
 
 pub put-task-spec : {M : Type 1} → statement M
 put-task-spec =

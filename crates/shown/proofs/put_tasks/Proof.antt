@@ -19,11 +19,17 @@ Inv-loop out₀ at tasks shown place₀ i₀ out place i =
 abbrev μ-loop : tie.MeasureT-loop
 μ-loop out₀ at tasks shown place₀ i₀ out place i = 64 - i
 
+-- both tables have 64 records
+tasks-size : (s : tie.Start Inv-loop μ-loop) → length (s .args .t3) ≡ 64
+tasks-size s = search needs
+
+shown-size : (s : tie.Start Inv-loop μ-loop) → length (s .args .t4) ≡ 64
+shown-size s = search needs
+
 loop-holds : tie.Need-loop-holds Inv-loop μ-loop
 loop-holds c =
-    let g = c .before .good .1 .1 in
-    let a = c .before .args in
-    (omega arith, g .0 .1 .0 .1, g .1 .0 .1 .0 .1, omega arith, refl, slots-none _ _ 1 (a .t3) (a .t4))
+    let s = c .before in
+    (omega arith, tasks-size s, shown-size s, omega arith, refl, slots-none _ _ 1 (s .args .t3) (s .args .t4))
 
 mul-k : tie.Need-mul-k Inv-loop μ-loop
 mul-k c = search needs

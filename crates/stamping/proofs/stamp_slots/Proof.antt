@@ -1,5 +1,4 @@
--- `stamping::stamp_slots` meets its contract: a walk of its MIR, by hand. The local array is taken apart into its elements, lent for a lifetime that is made for the call, and taken back at the list that `stamp_all` ensures.
--- Assumes nothing.
+-- `stamping::stamp_slots` meets its contract: a walk of its MIR, by hand; the array is lent for the call, and taken back at the list ensured. Assumes nothing.
 use mathlib.Core.Path.{_≡_, refl, sym, _∙_, ap, subst}
 use Prim.Native.Nat.{ℕ, _<_, _^_}
 use mathlib.Core.List.{List, [], _∷_, map}
@@ -17,7 +16,8 @@ use prog.Wp.{Heap, Calls, Loops, WpFn, Tables}
 use ghost.Atoms.{Atoms, sem}
 use contract.Monad.{Fun, fact}
 use contract.Running.{givenOf, tables, tablesOf}
-use types.Kit.{Given, ‵, raw, _⊛_, some, later, _$_, _∵_, !, qed, by, move, keep, use1, use2, use3, split, join, pick, rewrite, fsplit, fjoin, fpick, fpack, feqL, feqI, suffices, frame, await, done}
+use types.Kit.{Given, Item, ‵, raw, _⊛_, some, later, _$_, _∵_, !, qed}
+use types.Kit.{by, move, keep, use1, use2, use3, split, join, pick, rewrite, fsplit, fjoin, fpick, fpack, feqL, feqI, suffices, frame, await, done}
 use types.Tokens.{lft-new, lft-end}
 use types.Run.{look, init, forget, stop, from, load, lit, addr, and-then, no-more, of-opd, assigns, land, returns, enter, alloc1, alloc0, params1, pass1, pass0, free1, free0}
 use types.Part.{agg}
@@ -83,7 +83,8 @@ stayed = (stay-none (λ _. Ar) yes, (stay-none (λ _. u32) yes, tt))
 abbrev StampAll : {M : Type 1} (𝓤 : URA M) (H : Heap 𝓤) (A : Atoms 𝓤) (mem′ : Memory → SProp 𝓤) (run : Routine → Fun 𝓤) → Contract 𝓤
 StampAll 𝓤 H A mem′ run = tripleOf 𝓤 H A stamp-all.signature (stamp-all.spec 𝓤 H A mem′ run)
 
-module _ {M : Type 1} (𝓤 : URA M) (H : Heap 𝓤) (A : Atoms 𝓤) (W : Given 𝓤 H A) (at-mem : Memory → SProp 𝓤) (run : Routine → Fun 𝓤) (xs : List Task) (c : ℕ) (c-fits : c < 2 ^ 32) where
+module _ {M : Type 1} (𝓤 : URA M) (H : Heap 𝓤) (A : Atoms 𝓤) (W : Given 𝓤 H A) (at-mem : Memory → SProp 𝓤) (run : Routine → Fun 𝓤)
+    (xs : List Task) (c : ℕ) (c-fits : c < 2 ^ 32) where
   abbrev f : Task → Task
   f = stamped c
 
@@ -112,10 +113,27 @@ module _ {M : Type 1} (𝓤 : URA M) (H : Heap 𝓤) (A : Atoms 𝓤) (W : Given
   abbrev to-all : ℕ → ℕ → GName → StampAll 𝓤 H A at-mem run .Ghost
   to-all l α γ = (((α ∷ [], tt), (fullShare, tt), tt, (x l γ, (c, tt)), (s l ∷ [], (vint w32 c ∷ [], tt))), tt)
 
-  goes : (l α : ℕ) (γ : GName) → ent 𝓤 (sep 𝓤 (A .lft (α ∷ []) fullShare) (sem 𝓤 H A (MutSlice (named 0) (α ∷ []) R .own (x l γ) (s l ∷ [])))) (StampAll 𝓤 H A at-mem run .pre (to-all l α γ))
+  goes : (l α : ℕ) (γ : GName)
+      → ent 𝓤 (sep 𝓤 (A .lft (α ∷ []) fullShare) (sem 𝓤 H A (MutSlice (named 0) (α ∷ []) R .own (x l γ) (s l ∷ [])))) (StampAll 𝓤 H A at-mem run .pre (to-all l α γ))
   goes l α γ =
       qed W (‵ (flft (α ∷ []) fullShare) ∷ ‵ (MutSlice (named 0) (α ∷ []) R .own (x l γ) (s l ∷ [])) ∷ []) ∵ nothing ! $ move ! (1 ∷ 0 ∷ []) $ join ! $
       nothing ! $ owned ! u32 (Is u32) (uint-makes 𝓤 H A W w32) c _ (refl, c-fits) $ fjoin ! $ move ! (2 ∷ 0 ∷ []) $ fjoin ! $ move ! (1 ∷ 0 ∷ []) $ join ! $ frame ! $ done !
+
+  -- the array's elements, lent: the slice, and what is owed for it
+  abbrev lent : ℕ → ℕ → Item 𝓤
+  lent l α = later (some (λ (γ : GName). ‵ (MutSlice (named 0) (α ∷ []) R .own (x l γ) (s l ∷ [])) ⊛ ‵ (flent (α ∷ []) (Held R (length xs) l 0 γ))))
+
+  -- what `stamp_all` hands back, as the value w, and what it ensures: the slice's last list is the stamped one
+  abbrev back : ℕ → ℕ → GName → Val → Item 𝓤
+  back l α γ w =
+      later
+      (some (λ (r : Unit {0}).
+      ((‵ (flft (α ∷ []) fullShare) ⊛ ‵ ftrue) ⊛ ‵ (unit .own r (w ∷ [])))
+      ⊛ raw (ensured 𝓤 H A stamp-all.ended (stamp-all.clauses 𝓤 H A at-mem run) (α ∷ [], tt) (x l γ, (c, tt)) tt r)))
+
+  abbrev last : ℕ → ℕ → GName → Item 𝓤
+  last l α γ =
+      some (λ (zs : List Task × (Unit {0} × Unit {0})). ‵ (lasts stamp-all.ended (α ∷ [], tt) (x l γ, (c, tt)) zs) ⊛ raw (fact 𝓤 (zs .0 ≡ map f xs)))
 
   room : length xs ≡ 64 → Room R (length xs)
   room l = subst (Room R) (sym l) (lit< tt, lit< tt)
@@ -141,12 +159,13 @@ module _ {M : Type 1} (𝓤 : URA M) (H : Heap 𝓤) (A : Atoms 𝓤) (W : Given
         use1 W (‵ (cells (mem R) xs l₃ 0)) (whole-in 𝓤 H A W R xs l₃ 0) $
         rewrite ! 1 (λ (m : ℕ). ‵ (fat fullShare slice l₆ 0 (sliceVal (l₃, 0) m))) (sym l64) refl $
         lft-new ! tt (λ α. move ! (1 ∷ []) $
-        use1 W (later (some (λ (γ : GName). ‵ (MutSlice (named 0) (α ∷ []) R .own (x l₃ γ) (s l₃ ∷ [])) ⊛ ‵ (flent (α ∷ []) (Held R (length xs) l₃ 0 γ))))) (lends-slice 𝓤 H A W R (named 0) (α ∷ []) xs l₃ 0 (room l64)) $ await ! tt $ pick ! (λ γ. split ! $
+        use1 W (lent l₃ α) (lends-slice 𝓤 H A W R (named 0) (α ∷ []) xs l₃ 0 (room l64)) $ await ! tt $ pick ! (λ γ. split ! $
         move ! (2 ∷ 0 ∷ []) $ use2 W (raw (StampAll 𝓤 H A at-mem run .pre (to-all l₃ α γ))) (goes l₃ α γ) $
         -- [pre; lent; _6; …; _5; …; _4; …; that _3 dies; _2; …; _1; …; room for _0; …; true; what the parameters own]
-        calls-at ! fm (StampAll 𝓤 H A at-mem run) known (to-all l₃ α γ) (and-then ! (load ! (from ! (stop !)) (look ! 2 refl)) (and-then ! (load ! (from ! (stop !)) (look ! 9 refl)) (no-more !))) (λ w.
-        use1 W (later (some (λ (r : Unit {0}). ((‵ (flft (α ∷ []) fullShare) ⊛ ‵ ftrue) ⊛ ‵ (unit .own r (w ∷ []))) ⊛ raw (ensured 𝓤 H A stamp-all.ended (stamp-all.clauses 𝓤 H A at-mem run) (α ∷ [], tt) (x l₃ γ, (c, tt)) tt r)))) (id⊢ 𝓤 _) $ await ! tt $ pick ! (λ r.
-        split ! $ move ! (1 ∷ []) $ use1 W (some (λ (zs : List Task × (Unit {0} × Unit {0})). ‵ (lasts stamp-all.ended (α ∷ [], tt) (x l₃ γ, (c, tt)) zs) ⊛ raw (fact 𝓤 (zs .0 ≡ map f xs)))) (id⊢ 𝓤 _) $ pick ! (λ zs.
+        calls-at ! fm (StampAll 𝓤 H A at-mem run) known (to-all l₃ α γ)
+        (and-then ! (load ! (from ! (stop !)) (look ! 2 refl)) (and-then ! (load ! (from ! (stop !)) (look ! 9 refl)) (no-more !))) (λ w.
+        use1 W (back l₃ α γ w) (id⊢ 𝓤 _) $ await ! tt $ pick ! (λ r.
+        split ! $ move ! (1 ∷ []) $ use1 W (last l₃ α γ) (id⊢ 𝓤 _) $ pick ! (λ zs.
         split ! $ move ! (1 ∷ []) $ heard ! (zs .0 ≡ map f xs) (λ e. fsplit ! $ fsplit ! $ move ! (1 ∷ []) $ feqL ! (λ _.
         move ! (2 ∷ []) $ split ! $ move ! (1 ∷ []) $ feqL ! (λ u.
         land ! (from ! (stop !)) (init ! 8 refl (subst (λ (z : Val). T (hasTy tyUnit z) × WT z) (sym (ap only u)) (tt, tt))) $
@@ -166,15 +185,19 @@ module _ {M : Type 1} (𝓤 : URA M) (H : Heap 𝓤) (A : Atoms 𝓤) (W : Given
         keep ! (0 ∷ 4 ∷ []) $ by ! (exits (zs .0) (val (zs .0)) e))))))))))))))))))))
 
 module _ {M : Type 1} (𝓤 : URA M) (H : Heap 𝓤) (A : Atoms 𝓤) (W : Given 𝓤 H A) (mem′ : Memory → SProp 𝓤) (run : Routine → Fun 𝓤) where
-  stamp-slots-walks : (C : Calls 𝓤 H) (Λ : Loops 𝓤 H) → FmC 𝓤 H (W .laws) C → Triple 𝓤 (C #stamping·stamp-all) (StampAll 𝓤 H A mem′ run) → Walks 𝓤 H A stamp-slots.ended stayed (WpFn 𝓤 H C Λ code.function) (stamp-slots.clauses 𝓤 H A mem′ run)
-  stamp-slots-walks C Λ fm known = walked 𝓤 H A stamp-slots.ended stayed (stamp-slots.clauses 𝓤 H A mem′ run) (WpFn 𝓤 H C Λ code.function)
+  stamp-slots-walks : (C : Calls 𝓤 H) (Λ : Loops 𝓤 H) → FmC 𝓤 H (W .laws) C → Triple 𝓤 (C #stamping·stamp-all) (StampAll 𝓤 H A mem′ run)
+      → Walks 𝓤 H A stamp-slots.ended stayed (WpFn 𝓤 H C Λ code.function) (stamp-slots.clauses 𝓤 H A mem′ run)
+  stamp-slots-walks C Λ fm known =
+      walked 𝓤 H A stamp-slots.ended stayed (stamp-slots.clauses 𝓤 H A mem′ run) (WpFn 𝓤 H C Λ code.function)
       (λ κs. (vals, (uint-vals w32, tt))) (λ κs. (array-tells R (LL.vals R′.the-type T′.the-laws) (LL.tells R′.the-type T′.the-laws) 64, (uint-tells w32, tt)))
       (λ κs qs bounds a g are. via 𝓤 _ (fst∗ 𝓤 _ (emp 𝓤)) (walk 𝓤 H A W mem′ run (a .0) (a .1 .0) (are .1 .0 .1) C Λ fm known (are .0)))
 
-stamp-slots-meets : {M : Type 1} (𝓤 : URA M) (H : Heap 𝓤) (A : Atoms 𝓤) → Given 𝓤 H A → (mem′ : Memory → SProp 𝓤) (run : Routine → Fun 𝓤) (𝓣 : Tables 𝓤 H) → Triple 𝓤 (𝓣 .C #stamping·stamp-all) (StampAll 𝓤 H A mem′ run)
+stamp-slots-meets : {M : Type 1} (𝓤 : URA M) (H : Heap 𝓤) (A : Atoms 𝓤) → Given 𝓤 H A → (mem′ : Memory → SProp 𝓤) (run : Routine → Fun 𝓤) (𝓣 : Tables 𝓤 H)
+    → Triple 𝓤 (𝓣 .C #stamping·stamp-all) (StampAll 𝓤 H A mem′ run)
     → Meets 𝓤 H A stamp-slots.signature (WpFn 𝓤 H (𝓣 .C) (𝓣 .Λ) code.function) (stamp-slots.spec 𝓤 H A mem′ run)
 stamp-slots-meets 𝓤 H A W mem′ run 𝓣 known =
-    walk-meets 𝓤 H A stamp-slots.ended stayed W (goes-none 𝓤 H A W 0 (λ _. Ar) yes (λ κs x f. refl), (goes-none 𝓤 H A W 0 (λ _. u32) yes (λ κs x f. refl), tt)) (stamp-slots.clauses 𝓤 H A mem′ run)
+    walk-meets 𝓤 H A stamp-slots.ended stayed W
+    (goes-none 𝓤 H A W 0 (λ _. Ar) yes (λ κs x f. refl), (goes-none 𝓤 H A W 0 (λ _. u32) yes (λ κs x f. refl), tt)) (stamp-slots.clauses 𝓤 H A mem′ run)
     (WpFn 𝓤 H (𝓣 .C) (𝓣 .Λ) code.function) (WpFn-mono 𝓤 H (W .laws) 𝓣 code.function) (stamp-slots-walks 𝓤 H A W mem′ run (𝓣 .C) (𝓣 .Λ) (fmOf 𝓤 H (W .laws) 𝓣) known)
 
 pub stamp-slots-spec : {M : Type 1} → stated.statement M
@@ -183,4 +206,5 @@ stamp-slots-spec 𝓤 H 𝓜 𝓖 𝓡 =
     entered 𝓤 H (tripleOf 𝓤 H (𝓖 .A) stamp-slots.signature (stamp-slots.spec 𝓤 H (𝓖 .A) (𝓜 .mem) (𝓡 .run)))
     (tables 𝓤 H 𝓜 𝓡 code.env .C) (tables 𝓤 H 𝓜 𝓡 code.env .Λ) #stamping·stamp-slots code.function (code.unfolded 𝓤 H 𝓜 𝓡)
     (stamp-slots-meets 𝓤 H (𝓖 .A) (givenOf 𝓤 H 𝓜 𝓖) (𝓜 .mem) (𝓡 .run) (tablesOf 𝓤 H 𝓜 (tables 𝓤 H 𝓜 𝓡 code.env))
-    (cited 𝓤 H (StampAll 𝓤 H (𝓖 .A) (𝓜 .mem) (𝓡 .run)) 𝓜 𝓡 code.env #stamping·stamp-all stamp-all-def.routine code.calls-stamping·stamp-all (stamp-all-thm.met 𝓤 H 𝓜 𝓖 𝓡)))
+    (cited 𝓤 H (StampAll 𝓤 H (𝓖 .A) (𝓜 .mem) (𝓡 .run)) 𝓜 𝓡 code.env #stamping·stamp-all
+    stamp-all-def.routine code.calls-stamping·stamp-all (stamp-all-thm.met 𝓤 H 𝓜 𝓖 𝓡)))

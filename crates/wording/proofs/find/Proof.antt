@@ -1,6 +1,8 @@
 -- `wording::find` meets its contract. Assumes nothing.
-use Prim.Native.Nat.{_+_, _-_, _≤_}
+use Prim.Native.Nat.{ℕ, _+_, _-_, _≤_}
 use mathlib.Core.Path.{_≡_, sym, _∙_}
+use mathlib.Core.Bool.{Bool}
+use mathlib.Core.List.{List}
 use native.Mathlib.Omega.{arith}
 use native.Mathlib.Nat.{zero-add}
 use lib.ListN.{length, drop}
@@ -17,6 +19,16 @@ Inv-loop text sort i₀ i = (i ≤ length text) × (indexOf (stopsAt sort) text 
 abbrev μ-loop : tie.MeasureT-loop
 μ-loop text sort i₀ i = length text - i
 
+-- what is searched, and what for, where the loop stands
+abbrev Loop : Type 0
+Loop = tie.At-loop Inv-loop μ-loop
+
+abbrev text : Loop → List ℕ
+text l = l .before .before .args .text .now
+
+abbrev stop : Loop → ℕ → Bool
+stop l = stopsAt (l .before .before .args .sort)
+
 loop-holds : tie.Need-loop-holds Inv-loop μ-loop
 loop-holds c = (omega arith, sym (zero-add _))
 
@@ -27,7 +39,10 @@ stops-requires : tie.Need-stops-requires Inv-loop μ-loop
 stops-requires c κs = search needs
 
 returns : tie.Need-returns Inv-loop μ-loop
-returns c = let l = c .before .before .before .before .loop in let a = c .before .before .before .before .before .before .args in (index-here (stopsAt (a .sort)) (a .text .now) (l .i) 0 (omega arith) (sym (c .before .stops .ensures) ∙ c .if1 .taken) (l .inv .1), omega arith)
+returns c =
+    let l = c .before .before .before .before in
+    let here = sym (c .before .stops .ensures) ∙ c .if1 .taken in
+    (index-here (stop l) (text l) (l .loop .i) 0 (omega arith) here (l .loop .inv .1), omega arith)
 
 add-i : tie.Need-add-i Inv-loop μ-loop
 add-i c = search needs
@@ -36,10 +51,15 @@ loop-less : tie.Need-loop-less Inv-loop μ-loop
 loop-less c = search needs
 
 loop-again : tie.Need-loop-again Inv-loop μ-loop
-loop-again c = let l = c .before .before .before .before .loop in let a = c .before .before .before .before .before .before .args in (omega arith, index-on (stopsAt (a .sort)) (a .text .now) (l .i) 0 (omega arith) (sym (c .before .stops .ensures) ∙ c .if1 .left) (l .inv .1))
+loop-again c =
+    let l = c .before .before .before .before in
+    let on = sym (c .before .stops .ensures) ∙ c .if1 .left in
+    (omega arith, index-on (stop l) (text l) (l .loop .i) 0 (omega arith) on (l .loop .inv .1))
 
 returns-2 : tie.Need-returns-2 Inv-loop μ-loop
-returns-2 c = let l = c .before .loop in let a = c .before .before .before .args in (index-none (stopsAt (a .sort)) (a .text .now) (l .i) (omega arith) (l .inv .1), omega arith)
+returns-2 c =
+    let l = c .before in
+    (index-none (stop l) (text l) (l .loop .i) (omega arith) (l .loop .inv .1), omega arith)
 
 pub find-spec : {M : Type 1} → statement M
 find-spec =

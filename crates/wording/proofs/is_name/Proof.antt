@@ -1,6 +1,7 @@
 -- `wording::is_name` meets its contract. Assumes nothing.
-use Prim.Native.Nat.{_-_, _≤_}
+use Prim.Native.Nat.{ℕ, _-_, _≤_}
 use mathlib.Core.Path.{_≡_, refl, sym, _∙_}
+use mathlib.Core.List.{List}
 use native.Mathlib.Omega.{arith}
 use lib.ListN.{length, drop}
 use Rattle.wording.specs.Wording.{same}
@@ -15,6 +16,16 @@ Inv-loop word name i₀ i = (length word ≡ length name) × (i ≤ length word)
 abbrev μ-loop : tie.MeasureT-loop
 μ-loop word name i₀ i = length word - i
 
+-- the two that are compared, where the loop stands
+abbrev Loop : Type 0
+Loop = tie.At-loop Inv-loop μ-loop
+
+abbrev word : Loop → List ℕ
+word l = l .before .before .args .word .now
+
+abbrev name : Loop → List ℕ
+name l = l .before .before .args .name .now
+
 returns : tie.Need-returns Inv-loop μ-loop
 returns c = let a = c .before .args in sym (same-lengths (a .word .now) (a .name .now) (λ e. omega arith))
 
@@ -28,7 +39,9 @@ shared-slice-read-if2-2 : tie.Need-shared-slice-read-if2-2 Inv-loop μ-loop
 shared-slice-read-if2-2 c = search needs
 
 returns-2 : tie.Need-returns-2 Inv-loop μ-loop
-returns-2 c = let l = c .before .before .before .before .loop in let a = c .before .before .before .before .before .before .args in sym (l .inv .2 ∙ same-not (a .word .now) (a .name .now) (l .i) (omega arith) (omega arith) (λ e. omega arith))
+returns-2 c =
+    let l = c .before .before .before .before in
+    sym (l .loop .inv .2 ∙ same-not (word l) (name l) (l .loop .i) (omega arith) (omega arith) (λ e. omega arith))
 
 add-i : tie.Need-add-i Inv-loop μ-loop
 add-i c = search needs
@@ -37,10 +50,14 @@ loop-less : tie.Need-loop-less Inv-loop μ-loop
 loop-less c = search needs
 
 loop-again : tie.Need-loop-again Inv-loop μ-loop
-loop-again c = let l = c .before .before .before .before .loop in let a = c .before .before .before .before .before .before .args in (l .inv .0, omega arith, l .inv .2 ∙ same-on (a .word .now) (a .name .now) (l .i) (omega arith) (omega arith) (omega arith))
+loop-again c =
+    let l = c .before .before .before .before in
+    (l .loop .inv .0, omega arith, l .loop .inv .2 ∙ same-on (word l) (name l) (l .loop .i) (omega arith) (omega arith) (omega arith))
 
 returns-3 : tie.Need-returns-3 Inv-loop μ-loop
-returns-3 c = let l = c .before .loop in let a = c .before .before .before .args in sym (l .inv .2 ∙ same-end (a .word .now) (a .name .now) (l .i) (omega arith) (omega arith))
+returns-3 c =
+    let l = c .before in
+    sym (l .loop .inv .2 ∙ same-end (word l) (name l) (l .loop .i) (omega arith) (omega arith))
 
 pub is-name-spec : {M : Type 1} → statement M
 is-name-spec =

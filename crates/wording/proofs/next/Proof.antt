@@ -41,7 +41,12 @@ add-to : tie.Need-add-to
 add-to c = search needs
 
 returns : tie.Need-returns
-returns c = let a = c .before .before .before .before .before .args in let f = c .before .before .find in next-word (a .text .now) (a .at) (f .result) (c .find2 .result) _ (omega arith) (omega arith) (f .ensures .0 ∙ ap (indexOf (stopsAt Solid)) (onward (a .text .now) (a .at))) (c .find2 .ensures .0 ∙ ap (indexOf (stopsAt Blank)) (onward (a .text .now) (a .at + f .result))) refl refl
+returns c =
+    let a = c .before .before .before .before .before .args in
+    let f = c .before .before .find in
+    let blanks = f .ensures .0 ∙ ap (indexOf (stopsAt Solid)) (onward (a .text .now) (a .at)) in
+    let bytes = c .find2 .ensures .0 ∙ ap (indexOf (stopsAt Blank)) (onward (a .text .now) (a .at + f .result)) in
+    next-word (a .text .now) (a .at) (f .result) (c .find2 .result) _ (omega arith) (omega arith) blanks bytes refl refl
 
 pub next-spec : {M : Type 1} → statement M
 next-spec =

@@ -8,13 +8,15 @@ use borrow.Author.Tests.{not-true, not-false}
 use lib.ListN.{length, drop, getD}
 use Rattle.text.specs.Text as T
 use Rattle.wording.specs.Wording.{digit, fits}
-use Rattle.wording.proofs.Judged.{digit-least, judged, fits-none, fits-some, judged-digit, judged-other, judged-large, judged-end, value-digit, value-end}
+use Rattle.wording.proofs.Judged.{digit-least, judged, fits-none, fits-some}
+use Rattle.wording.proofs.Judged.{judged-digit, judged-other, judged-large, judged-end, value-digit, value-end}
 use borrow.Author.Needs.{needs}
 use Rattle.wording.proofs.read_number.Statement.{statement}
 use Rattle.wording.proofs.read_number.Tie as tie
 
 abbrev Inv-loop : tie.InvT-loop
-Inv-loop word most none value₀ i₀ value i = (i ≤ length word) × (value ≤ most) × (fits most word ≡ judged most value (drop i word)) × (T.value 0 word ≡ T.value value (drop i word))
+Inv-loop word most none value₀ i₀ value i =
+    (i ≤ length word) × (value ≤ most) × (fits most word ≡ judged most value (drop i word)) × (T.value 0 word ≡ T.value value (drop i word))
 
 abbrev μ-loop : tie.MeasureT-loop
 μ-loop word most none value₀ i₀ value i = length word - i
@@ -22,6 +24,41 @@ abbrev μ-loop : tie.MeasureT-loop
 -- a word that is no such number
 no : (most : ℕ) (word : List ℕ) → fits most word ≡ false → (false ≡ fits most word) × (0 ≡ cond (fits most word) (T.value 0 word) 0)
 no most word e = (sym e, rw e)
+
+-- the word, the limit, and the byte that the loop stands at
+abbrev Loop : Type 0
+Loop = tie.At-loop Inv-loop μ-loop
+
+abbrev word : Loop → List ℕ
+word l = l .before .before .before .args .word .now
+
+abbrev most : Loop → ℕ
+most l = l .before .before .before .args .most
+
+abbrev byte : Loop → ℕ
+byte l = getD (word l) (l .loop .i) 0
+
+-- where that byte is a digit: the value with it, and the bytes behind it
+abbrev Digit : Type 0
+Digit = tie.Else2 Inv-loop μ-loop
+
+abbrev loopOf : Digit → Loop
+loopOf d = d .before .before .before .before
+
+abbrev more : Loop → ℕ
+more l = l .loop .value * 10 + (byte l - 48)
+
+abbrev left : Loop → List ℕ
+left l = drop (l .loop .i + 1) (word l)
+
+a-digit : (d : Digit) → digit (byte (loopOf d)) ≡ true
+a-digit d = sym (d .before .is-digit .ensures) ∙ not-false _ (d .if2 .left)
+
+-- the rest decides, behind the value with it
+judged-on : (d : Digit) → fits (most (loopOf d)) (word (loopOf d)) ≡ judged (most (loopOf d)) (more (loopOf d)) (left (loopOf d))
+judged-on d =
+    let l = loopOf d in
+    l .loop .inv .2 ∙ judged-digit (most l) (l .loop .value) (word l) (l .loop .i) (omega arith) (a-digit d)
 
 returns : tie.Need-returns Inv-loop μ-loop
 returns c = let a = c .before .before .args in no (a .most) (a .word .now) (fits-none (a .most) (a .word .now) (omega arith))
@@ -36,16 +73,22 @@ is-digit-requires : tie.Need-is-digit-requires Inv-loop μ-loop
 is-digit-requires c κs = search needs
 
 returns-2 : tie.Need-returns-2 Inv-loop μ-loop
-returns-2 c = let l = c .before .before .before .before .loop in let a = c .before .before .before .before .before .before .before .args in no (a .most) (a .word .now) (l .inv .2 ∙ judged-other (a .most) (l .value) (a .word .now) (l .i) (omega arith) (sym (c .before .is-digit .ensures) ∙ not-true _ (c .if2 .taken)))
+returns-2 c =
+    let l = c .before .before .before .before in
+    let other = sym (c .before .is-digit .ensures) ∙ not-true _ (c .if2 .taken) in
+    no (most l) (word l) (l .loop .inv .2 ∙ judged-other (most l) (l .loop .value) (word l) (l .loop .i) (omega arith) other)
 
 shared-slice-read-behind : tie.Need-shared-slice-read-behind Inv-loop μ-loop
 shared-slice-read-behind c = search needs
 
 behind-requires : tie.Need-behind-requires Inv-loop μ-loop
-behind-requires c κs = omega (arith, digit-least (getD (c .before .before .before .before .before .before .before .before .args .word .now) (c .before .before .before .before .before .loop .i) 0) (sym (c .before .before .is-digit .ensures) ∙ not-false _ (c .before .if2 .left)))
+behind-requires c κs = omega (arith, digit-least (byte (loopOf (c .before))) (a-digit (c .before)))
 
 returns-3 : tie.Need-returns-3 Inv-loop μ-loop
-returns-3 c = let l = c .before .before .before .before .before .before .before .loop in let a = c .before .before .before .before .before .before .before .before .before .before .args in let d : digit (getD (a .word .now) (l .i) 0) ≡ true = sym (c .before .before .before .before .is-digit .ensures) ∙ not-false _ (c .before .before .before .if2 .left) in no (a .most) (a .word .now) (l .inv .2 ∙ judged-digit (a .most) (l .value) (a .word .now) (l .i) (omega arith) d ∙ judged-large (a .most) (l .value * 10 + (getD (a .word .now) (l .i) 0 - 48)) (drop (l .i + 1) (a .word .now)) (omega arith))
+returns-3 c =
+    let d = c .before .before .before in
+    let l = loopOf d in
+    no (most l) (word l) (judged-on d ∙ judged-large (most l) (more l) (left l) (omega arith))
 
 cast-value : tie.Need-cast-value Inv-loop μ-loop
 cast-value c = search needs
@@ -57,10 +100,18 @@ loop-less : tie.Need-loop-less Inv-loop μ-loop
 loop-less c = search needs
 
 loop-again : tie.Need-loop-again Inv-loop μ-loop
-loop-again c = let l = c .before .before .before .before .before .before .before .loop in let a = c .before .before .before .before .before .before .before .before .before .before .args in let d : digit (getD (a .word .now) (l .i) 0) ≡ true = sym (c .before .before .before .before .is-digit .ensures) ∙ not-false _ (c .before .before .before .if2 .left) in (omega arith, omega arith, l .inv .2 ∙ judged-digit (a .most) (l .value) (a .word .now) (l .i) (omega arith) d ∙ ap (λ v. judged (a .most) v (drop (l .i + 1) (a .word .now))) (sym (c .before .behind .ensures)), l .inv .3 ∙ value-digit (a .most) (l .value) (a .word .now) (l .i) (omega arith) ∙ ap (λ v. T.value v (drop (l .i + 1) (a .word .now))) (sym (c .before .behind .ensures)))
+loop-again c =
+    let d = c .before .before .before in
+    let l = loopOf d in
+    let e = sym (c .before .behind .ensures) in
+    let value-on = l .loop .inv .3 ∙ value-digit (most l) (l .loop .value) (word l) (l .loop .i) (omega arith) in
+    (omega arith, omega arith, judged-on d ∙ ap (λ v. judged (most l) v (left l)) e, value-on ∙ ap (λ v. T.value v (left l)) e)
 
 returns-4 : tie.Need-returns-4 Inv-loop μ-loop
-returns-4 c = let l = c .before .loop in let a = c .before .before .before .before .args in let f : fits (a .most) (a .word .now) ≡ true = l .inv .2 ∙ judged-end (a .most) (l .value) (a .word .now) (l .i) (omega arith) (l .inv .1) in (sym f, rw f (sym (l .inv .3 ∙ value-end (l .value) (a .word .now) (l .i) (omega arith))))
+returns-4 c =
+    let l = c .before in
+    let f : fits (most l) (word l) ≡ true = l .loop .inv .2 ∙ judged-end (most l) (l .loop .value) (word l) (l .loop .i) (omega arith) (l .loop .inv .1) in
+    (sym f, rw f (sym (l .loop .inv .3 ∙ value-end (l .loop .value) (word l) (l .loop .i) (omega arith))))
 
 pub read-number-spec : {M : Type 1} → statement M
 read-number-spec =

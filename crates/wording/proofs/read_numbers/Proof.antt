@@ -18,6 +18,16 @@ Inv-loop text at mosts values₀ from₀ i₀ values from i = Sofar text at most
 abbrev μ-loop : tie.MeasureT-loop
 μ-loop text at mosts values₀ from₀ i₀ values from i = length mosts - i
 
+-- a turn of the loop: its number, its word, and where the loop stood
+abbrev Turn : Type 0
+Turn = tie.After-read-number Inv-loop μ-loop
+
+abbrev wordOf : Turn → tie.After-next Inv-loop μ-loop
+wordOf t = t .before .before .before
+
+abbrev loopOf : Turn → tie.At-loop Inv-loop μ-loop
+loopOf t = wordOf t .before .before
+
 loop-holds : tie.Need-loop-holds Inv-loop μ-loop
 loop-holds c = sofar-none _ _ _ (c .before .before .pre .0)
 
@@ -46,7 +56,9 @@ add-t20 : tie.Need-add-t20 Inv-loop μ-loop
 add-t20 c = search needs
 
 returns : tie.Need-returns Inv-loop μ-loop
-returns c = let l = c .before .before .before .before .before .before .before .loop in let a = c .before .before .before .before .before .before .before .before .before .before .args in let n = c .before .before .before .before .before .next in let k = c .before .before .read-number in stops-here (l .inv) (n .ensures) (omega arith) (sym (k .ensures .0) ∙ not-true _ (c .if1 .taken)) refl refl
+returns c =
+    let t = c .before .before in
+    stops-here (loopOf t .loop .inv) (wordOf t .next .ensures) (omega arith) (sym (t .read-number .ensures .0) ∙ not-true _ (c .if1 .taken)) refl refl
 
 mul-values : tie.Need-mul-values Inv-loop μ-loop
 mul-values c = search needs
@@ -61,19 +73,31 @@ loop-less : tie.Need-loop-less Inv-loop μ-loop
 loop-less c = search needs
 
 loop-again : tie.Need-loop-again Inv-loop μ-loop
-loop-again c = let l = c .before .before .before .before .before .before .before .loop in let a = c .before .before .before .before .before .before .before .before .before .before .args in let n = c .before .before .before .before .before .next in let k = c .before .before .read-number in let f : fits (getD (a .mosts .now) (l .i) 0) (part (n .result .from) (n .result .to) (a .text .now)) ≡ true = sym (k .ensures .0) ∙ not-false _ (c .if1 .left) in sofar-one (l .inv) (n .ensures) (omega arith) (c .before .before .before .before .before .before .before .before .before .before .pre .1) f (k .ensures .1 ∙ rw f)
+loop-again c =
+    let t = c .before .before in
+    let l = loopOf t in
+    let s = l .before .before .before in
+    let n = wordOf t .next in
+    let k = t .read-number in
+    let word = part (n .result .from) (n .result .to) (s .args .text .now) in
+    let f : fits (getD (s .args .mosts .now) (l .loop .i) 0) word ≡ true = sym (k .ensures .0) ∙ not-false _ (c .if1 .left) in
+    sofar-one (l .loop .inv) (n .ensures) (omega arith) (s .pre .1) f (k .ensures .1 ∙ rw f)
 
 next-requires-2 : tie.Need-next-requires-2 Inv-loop μ-loop
 next-requires-2 c κs = search needs
 
 returns-2 : tie.Need-returns-2 Inv-loop μ-loop
-returns-2 c = let l = c .before .before .before .before .loop in let n = c .before .before .next2 in all-read (l .inv) (n .ensures) (omega arith) (c .if2 .taken) refl refl
+returns-2 c =
+    let n = c .before .before in
+    all-read (n .before .before .loop .inv) (n .next2 .ensures) (omega arith) (c .if2 .taken) refl refl
 
 add-t26 : tie.Need-add-t26 Inv-loop μ-loop
 add-t26 c = search needs
 
 returns-3 : tie.Need-returns-3 Inv-loop μ-loop
-returns-3 c = let l = c .before .before .before .before .loop in let n = c .before .before .next2 in too-many (l .inv) (n .ensures) (omega arith) (c .if2 .left) refl refl
+returns-3 c =
+    let n = c .before .before in
+    too-many (n .before .before .loop .inv) (n .next2 .ensures) (omega arith) (c .if2 .left) refl refl
 
 pub read-numbers-spec : {M : Type 1} → statement M
 read-numbers-spec =

@@ -1,5 +1,6 @@
 -- `words::marked` meets its contract: each of the four words has its share of the range. Assumes nothing.
-use mathlib.Core.Bool.{_&&_}
+use Prim.Native.Nat.{ℕ}
+use mathlib.Core.Bool.{Bool, _&&_}
 use lib.Dec.{leb, ltb}
 use borrow.Author.Needs.{needs}
 use Rattle.words.proofs.Columns.{column-or}
@@ -33,7 +34,8 @@ share-requires-4 c κs = search needs
 returns : tie.Need-returns
 returns c =
     let a = c .before .before .before .before .args in
-    column-or (a .t1) (λ x. leb (a .first) x && ltb x (a .past)) _ _ _ _ (c .before .before .before .share .ensures) (c .before .before .share2 .ensures) (c .before .share3 .ensures) (c .share4 .ensures)
+    let range : ℕ → Bool = λ x. leb (a .first) x && ltb x (a .past) in
+    column-or (a .t1) range _ _ _ _ (c .before .before .before .share .ensures) (c .before .before .share2 .ensures) (c .before .share3 .ensures) (c .share4 .ensures)
 
 pub marked-spec : {M : Type 1} → statement M
 marked-spec =
