@@ -67,7 +67,8 @@ module _ (W now : ℕ) (ts : List Task) where
       let r : Run = record { left = s .first; size = suc (s .last) - s .first } in
       let among = longest-runs (at (s .release)) 1 W r longest in
       let same : strip (s .release) r ≡ s = λ i. record { first = s .first; last = back i; release = s .release } in
-      let listed : s ∈ map (strip (s .release)) (runs (at (s .release)) (columns W)) = subst (λ x. x ∈ map (strip (s .release)) (runs (at (s .release)) (columns W))) same (in-map (strip (s .release)) among) in
+      let listed : s ∈ map (strip (s .release)) (runs (at (s .release)) (columns W)) =
+      subst (λ x. x ∈ map (strip (s .release)) (runs (at (s .release)) (columns W))) same (in-map (strip (s .release)) among) in
       in-each (λ t. map (strip t) (runs (at t) (columns W))) (in-rising times there-is) listed
     where
       back : s .first + (suc (s .last) - s .first) - 1 ≡ s .last

@@ -42,10 +42,14 @@ four P a b c d (suc (suc (suc (suc k)))) h = absurd (omega arith)
 
 -- four words with the columns that pass set too, word by word
 pub column-or : (ws : List ℕ) (p : ℕ → Bool) (a b c d : ℕ)
-    → ((j : ℕ) → j < 64 → bit a j ≡ p (1 + j)) → ((j : ℕ) → j < 64 → bit b j ≡ p (65 + j)) → ((j : ℕ) → j < 64 → bit c j ≡ p (129 + j)) → ((j : ℕ) → j < 64 → bit d j ≡ p (193 + j))
+    → ((j : ℕ) → j < 64 → bit a j ≡ p (1 + j)) → ((j : ℕ) → j < 64 → bit b j ≡ p (65 + j))
+    → ((j : ℕ) → j < 64 → bit c j ≡ p (129 + j)) → ((j : ℕ) → j < 64 → bit d j ≡ p (193 + j))
     → (x : ℕ) → 1 ≤ x → x ≤ 256 → column (bitOr (getD ws 0 0) a ∷ bitOr (getD ws 1 0) b ∷ bitOr (getD ws 2 0) c ∷ bitOr (getD ws 3 0) d ∷ []) x ≡ (column ws x || p x)
 column-or ws p a b c d f g h i =
-    by-words (λ x. column ws x || p x) out (λ k j l m. four (λ k. (j : ℕ) → j < 64 → bit (getD out k 0) j ≡ (column ws (k * 64 + 1 + j) || p (k * 64 + 1 + j))) (one 0 a f) (one 1 b g) (one 2 c h) (one 3 d i) k l j m)
+    by-words (λ x. column ws x || p x) out
+    (λ k j l m.
+    four (λ k. (j : ℕ) → j < 64 → bit (getD out k 0) j ≡ (column ws (k * 64 + 1 + j) || p (k * 64 + 1 + j)))
+    (one 0 a f) (one 1 b g) (one 2 c h) (one 3 d i) k l j m)
   where
     out : List ℕ
     out = bitOr (getD ws 0 0) a ∷ bitOr (getD ws 1 0) b ∷ bitOr (getD ws 2 0) c ∷ bitOr (getD ws 3 0) d ∷ []
@@ -55,7 +59,8 @@ column-or ws p a b c d f g h i =
 
 -- four words, each digit the other way round
 pub column-not : (ws : List ℕ) → ((k : ℕ) → getD ws k 0 < 2 ^ 64)
-    → (x : ℕ) → 1 ≤ x → x ≤ 256 → column ((2 ^ 64 - 1 - getD ws 0 0) ∷ (2 ^ 64 - 1 - getD ws 1 0) ∷ (2 ^ 64 - 1 - getD ws 2 0) ∷ (2 ^ 64 - 1 - getD ws 3 0) ∷ []) x ≡ not (column ws x)
+    → (x : ℕ) → 1 ≤ x → x ≤ 256
+    → column ((2 ^ 64 - 1 - getD ws 0 0) ∷ (2 ^ 64 - 1 - getD ws 1 0) ∷ (2 ^ 64 - 1 - getD ws 2 0) ∷ (2 ^ 64 - 1 - getD ws 3 0) ∷ []) x ≡ not (column ws x)
 column-not ws f =
     by-words (λ x. not (column ws x)) out (λ k j l m. four (λ k. (j : ℕ) → j < 64 → bit (getD out k 0) j ≡ not (column ws (k * 64 + 1 + j))) (one 0) (one 1) (one 2) (one 3) k l j m)
   where

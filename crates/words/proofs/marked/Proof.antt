@@ -33,7 +33,8 @@ share-requires-4 c κs = search needs
 returns : tie.Need-returns
 returns c =
     let a = c .before .before .before .before .args in
-    column-or (a .t1) (λ x. leb (a .first) x && ltb x (a .past)) _ _ _ _ (c .before .before .before .share .ensures) (c .before .before .share2 .ensures) (c .before .share3 .ensures) (c .share4 .ensures)
+    column-or (a .t1) (λ x. leb (a .first) x && ltb x (a .past)) _ _ _ _
+    (c .before .before .before .share .ensures) (c .before .before .share2 .ensures) (c .before .share3 .ensures) (c .share4 .ensures)
 
 pub marked-spec : {M : Type 1} → statement M
 marked-spec =
