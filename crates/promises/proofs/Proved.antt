@@ -11,7 +11,7 @@ use Rattle.promises.specs.Cases.{submit, clock}
 use Rattle.lists.specs.Lists.{keep, some?, all?, pairwise?, head?, orElse, lastOr, indexOf, putFirst, insertBy, sortBy, each, firstOf, range, highest, addTo, rising}
 use Rattle.ways.specs.Ways.{isOpen, pairsIn, openingsIn, after, openingsAfter, askedOn}
 use Rattle.tasks.specs.Tasks.{meets, covers, holds, phaseAt, stamped, zeros, booked}
-use Rattle.columns.specs.Columns.{join, runs, bestFit}
+use Rattle.columns.specs.Columns.{join, runs, better, bestFit}
 use Rattle.planners.specs.Openings.{ways, full, pairWords}
 use Rattle.planners.specs.Planners.{free, release, visited, clearOfWaiting, candidates, releasedEdges, reference, horizon, stuffing, planned}
 use Rattle.slots.specs.Slots.{agree, taskSound, slotSound, together, sound, named, known, withBooked, agedTo, allAgedTo, withoutNamed, runsNamed}
@@ -27,8 +27,60 @@ use Rattle.promises.specs.Edges.{refusedList, edgeSet, filled}
 use Rattle.promises.specs.ProvingSet.{played, tableWith, withClocks, firstSix, seven, listing, provingSet, twoRuns, waitingAhead, tellingSet, listingEvents, listingLines, recording}
 
 -- every definition of the book, opened so that it computes
+open-lists : Unit {0}
+unfolding keep some? all? pairwise? head? orElse lastOr indexOf putFirst insertBy sortBy each firstOf range highest addTo rising
+open-lists = tt
+
+open-ways : Unit {0}
+unfolding isOpen pairsIn openingsIn after openingsAfter askedOn
+open-ways = tt
+
+open-tasks : Unit {0}
+unfolding meets covers holds phaseAt stamped zeros booked
+open-tasks = tt
+
+open-columns : Unit {0}
+unfolding join runs better bestFit
+open-columns = tt
+
+open-planners : Unit {0}
+unfolding ways full free release visited clearOfWaiting candidates releasedEdges reference horizon stuffing planned
+open-planners = tt
+
+open-slots : Unit {0}
+unfolding agree taskSound slotSound together sound named known withBooked agedTo allAgedTo withoutNamed runsNamed
+open-slots = tt
+
+open-lookups : Unit {0}
+unfolding horizonList stripWords busyColumns
+open-lookups = tt
+
+open-board : Unit {0}
+unfolding told orRefused freshBoard created withTask taken answered submitted boardAt clocked withdrawn remaining pairWords opened openedBuffer listed listedBuffer counted
+open-board = tt
+
+open-refusals : Unit {0}
+unfolding refusal refusedCreate refusedSubmit refusedInstant refusedWithdraw refusedOpenings refusedHorizon clockedUntested withdrawnAt withdrawnUntested
+open-refusals = tt
+
+open-events : Unit {0}
+unfolding bytesOf numberOf kindOf bodyOf recordOf wholeOr15 readFrom written writtenBuffer toldRead toldWritten
+open-events = tt
+
+open-lines : Unit {0}
+unfolding lineOf outcome linesFrom planLines numbers afterEvent play
+open-lines = tt
+
+open-cases : Unit {0}
+unfolding same sameAll passes at only refusedList edgeSet filled
+open-cases = tt
+
+open-sets : Unit {0}
+unfolding played tableWith withClocks firstSix seven listing provingSet twoRuns waitingAhead tellingSet listingEvents listingLines recording
+open-sets = tt
+
 open-book : Unit {0}
-unfolding keep some? all? pairwise? head? orElse lastOr indexOf putFirst insertBy sortBy each firstOf range highest addTo rising isOpen pairsIn openingsIn after openingsAfter askedOn meets covers holds phaseAt stamped zeros booked join runs bestFit ways full free release visited clearOfWaiting candidates releasedEdges reference horizon stuffing planned agree taskSound slotSound together sound named known withBooked agedTo allAgedTo withoutNamed runsNamed horizonList stripWords busyColumns told orRefused freshBoard created withTask taken answered submitted boardAt clocked withdrawn remaining pairWords opened openedBuffer listed listedBuffer counted refusal refusedCreate refusedSubmit refusedInstant refusedWithdraw refusedOpenings refusedHorizon clockedUntested withdrawnAt withdrawnUntested bytesOf numberOf kindOf bodyOf recordOf wholeOr15 readFrom written writtenBuffer toldRead toldWritten lineOf outcome linesFrom planLines numbers afterEvent play same sameAll passes at only refusedList edgeSet filled played tableWith withClocks firstSix seven listing provingSet twoRuns waitingAhead tellingSet listingEvents listingLines recording
+unfolding open-lists open-ways open-tasks open-columns open-planners open-slots open-lookups open-board open-refusals open-events open-lines open-cases open-sets
 open-book = tt
 
 -- CASES 1 TO 9 OF DOCUMENT 01

@@ -52,7 +52,7 @@ pub fn survey(columns: u16, rows: u16, clock: u32, tasks: [Task; 64], live: &mut
             k.id,
             i as u32,
         );
-        count += slots::one_if(on);
+        count += lists::one_if(on) as usize;
         used = used_with(used, i as u32, on);
         i += 1;
     }
