@@ -3,16 +3,17 @@ use Prim.Native.Nat.{ℕ, _≤_, _<_}
 use mathlib.Core.Path.{_≡_, refl, sym, ap, _∙_, subst}
 use mathlib.Core.Logic.{_⊎_, inl, inr}
 use mathlib.Core.Bool.{Bool, _&&_}
-use mathlib.Core.List.{List, [], _∷_, List·Memᴰ·head as here, List·Memᴰ·cases-cons as cases, List·Memᴰ·not-nil as nowhere}
+use mathlib.Core.List.{List, [], _∷_}
+use mathlib.Core.List.{List·Memᴰ·head as here, List·Memᴰ·tail as there, List·Memᴰ·cases-cons as cases, List·Memᴰ·not-nil as nowhere}
 use native.Mathlib.Omega.{arith}
 use native.Mathlib.Decide.{decLt}
 use lib.Dec.{T, leb, ltb, eqb, leb→le, le→leb, ltb→lt, lt→ltb, eqb→eq, eqb-refl}
 use Rattle.lists.specs.Lists.{_∈_, keep, range, never}
 use Rattle.lists.proofs.Bools.{and-l, and-r, and-i, or-cases, or-l, or-r, same-bool}
 use Rattle.lists.proofs.Members.{keep-in, in-keep, sort-in, in-sort}
-use Rattle.lists.proofs.Order.{Sorted, Sorted·head, sorted-keep, sorted-by, sort-sorted}
-use Rattle.columns.specs.Columns.{Run, runs, better, bestFit, key, leftOf}
-use Rattle.columns.proofs.Runs.{Gap, runs-sorted, Lies}
+use Rattle.lists.proofs.Order.{Sorted, empty, next, Sorted·head, Sorted·tail, sorted-keep, sorted-by, sort-sorted}
+use Rattle.columns.specs.Columns.{columns, Run, runs, better, bestFit, key, leftOf}
+use Rattle.columns.proofs.Runs.{Gap, runs-sorted, Lies, runs-lie}
 
 -- BEST FIT HAS JUST THE RUNS THAT ARE WIDE ENOUGH
 pub fit-in : (w : ℕ) (rs : List Run) {r : Run} → r ∈ bestFit w rs → (r ∈ rs) × (w ≤ r .size)
@@ -119,6 +120,17 @@ pub best-sorted : (w : ℕ) (f : ℕ → Bool) (c n : ℕ) → Sorted Better (be
 unfolding bestFit
 best-sorted w f c n =
     sort-sorted better better-trans (sorted-by Gap (λ r q. Better r q ⊎ Better q r) told (sorted-keep Gap (λ r. leb w (r .size)) (runs-sorted f c n)))
+
+-- so, on a device of at most 256 columns, BY RISING KEY
+pub best-rising : (w : ℕ) (f : ℕ → Bool) {W : ℕ} → W ≤ 256 → Sorted (λ r q. key r < key q) (bestFit w (runs f (columns W)))
+best-rising w f {W} small =
+    rise (bestFit w (runs f (columns W))) (λ r m. runs-lie f 1 W (fit-in w (runs f (columns W)) m .0)) (best-sorted w f 1 W)
+  where
+    rise : (rs : List Run) → ((r : Run) → r ∈ rs → Lies f 1 W r) → Sorted Better rs → Sorted (λ r q. key r < key q) rs
+    rise [] lies s = empty
+    rise (r ∷ rs) lies s =
+        next (λ q m. key-less small (lies r (here refl)) (lies q (there m)) (Sorted·head Better s q m))
+        (rise rs (λ q m. lies q (there m)) (Sorted·tail Better s))
 
 -- THE FIRST OF BEST FIT is the run that is wide enough and that no other such run is better than
 pub best-head : (w : ℕ) (f : ℕ → Bool) (c n : ℕ) (r : Run) → r ∈ runs f (range c n) → w ≤ r .size

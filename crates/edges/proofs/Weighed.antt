@@ -15,7 +15,7 @@ use Rattle.lists.proofs.Order.{sorted-compare, first-keep}
 use Rattle.words.specs.Words.{column, Least}
 use Rattle.columns.specs.Columns.{columns, Run, runs, bestFit, key, leftOf, upTo}
 use Rattle.columns.proofs.Runs.{Gap, runs-sorted, Longest, runs-longest, longest-runs}
-use Rattle.columns.proofs.BestFit.{Better, fit-in, in-fit, best-sorted, key-less, key-left, key-counts}
+use Rattle.columns.proofs.BestFit.{fit-in, in-fit, best-rising, key-left, key-counts}
 use Rattle.edges.specs.Edges.{Fitting, Picked}
 
 -- a test and its negation
@@ -266,13 +266,10 @@ module _ (held fit : List ℕ) where
             let c : q .left ≡ r = sym (key-left (omega arith) k) ∙ ap leftOf z ∙ sym i in
             record { none = λ y. absurd (omega (arith, k .low)); one = λ y. (q, c, first) }
           where
-            better : (x : Run) → Better x q → Edge x → ⊥
-            better x b f =
-                let k = e .longest .lies in
-                let j = f .longest .lies in
-                omega (arith, key-less (omega arith) j k b, o .weighed apart .least x f (omega (arith, j .high, j .not-empty)))
+            lesser : (x : Run) → key x < key q → Edge x → ⊥
+            lesser x b f = let j = f .longest .lies in omega (arith, o .weighed apart .least x f (omega (arith, j .high, j .not-empty)))
 
             first : head? (keep (λ x. column fit (x .left)) (bestFit w rs)) ≡ some q
             first =
-                first-keep Better (λ x. column fit (x .left)) (best-sorted w free 1 W) (edge-in e) (subst T (sym (e .fits)) tt)
-                (λ x m b. dull x m (better x b))
+                first-keep (λ x y. key x < key y) (λ x. column fit (x .left)) (best-rising w free (d .small)) (edge-in e) (subst T (sym (e .fits)) tt)
+                (λ x m b. dull x m (lesser x b))

@@ -18,7 +18,7 @@ use Rattle.tasks.specs.declared.Submission.{Submission}
 use Rattle.tasks.specs.Tasks.{finish, meets, stamped, booked}
 use Rattle.columns.specs.Columns.{columns, Run, runs, bestFit, key, leftOf}
 use Rattle.columns.proofs.Runs.{Lies, runs-lie}
-use Rattle.columns.proofs.BestFit.{Better, best-sorted, fit-in, in-fit, key-less, key-left, key-counts}
+use Rattle.columns.proofs.BestFit.{best-rising, fit-in, in-fit, key-left, key-counts}
 use Rattle.planners.specs.declared.Found.the-variants.{Nothing, At}
 use Rattle.planners.specs.Openings.{Place, ways}
 use Rattle.planners.specs.Planners.{free, leftEdge, clearOfWaiting, candidates, stuffing}
@@ -99,19 +99,19 @@ module _ (W now : ℕ) (ts : List Task) (w e d : ℕ) (small : W ≤ 256) where
           let m = in-fit w (runs (free ts t) (columns W)) (k .1) (k .2) in
           ap head? (keep-map (clearOfWaiting W now ts a t) (leftEdge t) (best t))
           ∙ head-map (leftEdge t) (keep (clear t) (best t))
-          (first-keep Better (clear t) (best-sorted w (free ts t) 1 W) m
+          (first-keep (λ y z. key y < key z) (clear t) (best-rising w (free ts t) small) m
           (subst T (sym (edge-clear t q m ∙ ap not (ap (meet t) c ∙ z))) tt)
-          (λ y i b. before y i (k .4) (fit-in w (runs (free ts t) (columns W)) i) (λ j. key-less small (lies t y j) (lies t q (k .1)) b)))
+          (λ y i b. before y i (k .4) (fit-in w (runs (free ts t) (columns W)) i) b))
           ∙ ap (λ y. some (pair t y)) c
         where
           before : (q : Run) → q ∈ best t → key (k .0) ≡ r → (q ∈ runs (free ts t) (columns W)) × (w ≤ q .size)
-              → (q ∈ runs (free ts t) (columns W) → key q < key (k .0)) → T (not (clear t q))
+              → key q < key (k .0) → T (not (clear t q))
           before q i y j b =
               subst (λ v. T (not v)) (sym (edge-clear t q i ∙ ap not (o .met q (j .0) (j .1) (tried (decLe (key q) after))))) tt
             where
               tried : Dec (key q ≤ after) → key q ≤ after
               tried (yes u) = u
-              tried (no u) = absurd (let l = n .least q (j .0) (j .1) (omega arith) in let v = b (j .0) in omega arith)
+              tried (no u) = absurd (let l = n .least q (j .0) (j .1) (omega arith) in omega arith)
 
   -- the next meets a task: on
   pub tries-on : {t after r x : ℕ} → Tries t after → NextFit (free ts t) W w after r → (r ≡ never → ⊥) → x ≡ leftOf r → meet t x ≡ true → Tries t r
