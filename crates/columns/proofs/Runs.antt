@@ -90,7 +90,10 @@ sorted-join f c n (r ∷ rs) h s = step (eqb (r .left) (suc c)) refl
 
     step : (b : Bool) → eqb (r .left) (suc c) ≡ b
         → Sorted Gap (cond b (record { left = c; size = suc (r .size) } ∷ rs) (record { left = c; size = 1 } ∷ r ∷ rs))
-    step true e = next {x = record { left = c; size = suc (r .size) }} (λ y m. let q = eqb-true (r .left) (suc c) e in let g = Sorted·head Gap s y m in record { gap = omega arith }) (Sorted·tail Gap s)
+    step true e =
+        next {x = record { left = c; size = suc (r .size) }}
+        (λ y m. let q = eqb-true (r .left) (suc c) e in let g = Sorted·head Gap s y m in record { gap = omega arith })
+        (Sorted·tail Gap s)
     step false e = next {x = record { left = c; size = 1 }} (λ y m. record { gap = far y (cases m) }) s
       where
         away : r .left ≡ suc c → ⊥

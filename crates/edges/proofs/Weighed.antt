@@ -1,6 +1,6 @@
 -- The walk over the left edges: the runs that begin before the place where it stands are weighed; at the end all are. Assumes nothing.
-use Prim.Native.Nat.{ℕ, suc, _+_, _-_, _*_, _%_, _≤_, _<_, min}
-use mathlib.Core.Path.{_≡_, refl, sym, ap, subst}
+use Prim.Native.Nat.{ℕ, suc, _+_, _-_, _≤_, _<_, min}
+use mathlib.Core.Path.{_≡_, refl, sym, ap, _∙_, subst}
 use mathlib.Core.Logic.{_⊎_, inl, inr}
 use mathlib.Core.Bool.{Bool, true, false, not, _||_}
 use mathlib.Core.List.{List}
@@ -8,23 +8,15 @@ use mathlib.Core.Option.{some}
 use native.Mathlib.Omega.{arith}
 use native.Mathlib.Decide.{decLt, ℕ-discrete as decEq}
 use lib.Dec.{T, leb, ltb, leb→le, le→leb, nleb→lt, ltb→lt, lt→ltb}
-use Rattle.lists.specs.Lists.{_∈_, keep, head?}
+use Rattle.lists.specs.Lists.{_∈_, keep, head?, never}
 use Rattle.lists.proofs.Bools.{or-cases, or-l, or-r, bool, is-true, same-bool}
 use Rattle.lists.proofs.Members.{keep-none}
 use Rattle.lists.proofs.Order.{sorted-compare, first-keep}
 use Rattle.words.specs.Words.{column, Least}
-use Rattle.columns.specs.Columns.{columns, Run, runs, bestFit}
+use Rattle.columns.specs.Columns.{columns, Run, runs, bestFit, key, leftOf, upTo}
 use Rattle.columns.proofs.Runs.{Gap, runs-sorted, Longest, runs-longest, longest-runs}
-use Rattle.columns.proofs.BestFit.{Better, narrower, lefter, fit-in, in-fit, best-sorted}
+use Rattle.columns.proofs.BestFit.{fit-in, in-fit, best-rising, key-left, key-counts}
 use Rattle.edges.specs.Edges.{Fitting, Picked}
-
--- a run's key: less where it is narrower, or as narrow and further left
-abbrev pub key : Run → ℕ
-key r = r .size * 512 + r .left
-
--- no key
-abbrev pub none : ℕ
-none = 4294967295
 
 -- a test and its negation
 absent : {b : Bool} → b ≡ true → T (not b) → ⊥
@@ -66,10 +58,10 @@ module _ (held fit : List ℕ) where
     pub longest : Longest free 1 256 q
     pub fits : column fit (q .left) ≡ true
 
-  -- best is the least key of the edges before `at`, or none
+  -- best is the least key of the edges before `at`, or never
   pub record Weighed (at best : ℕ) : Type 0 where
     pub least : (q : Run) → Edge q → q .left < at → best ≤ key q
-    pub one : (best ≡ none) ⊎ ((q : Run) × Edge q × (key q ≡ best))
+    pub one : (best ≡ never) ⊎ ((q : Run) × Edge q × (key q ≡ best))
 
   -- the columns that fit are clear
   abbrev Apart : Type 0
@@ -79,10 +71,10 @@ module _ (held fit : List ℕ) where
   pub record Stands (at best : ℕ) : Type 0 where
     pub low : 1 ≤ at
     pub high : at ≤ 257
-    pub most : best ≤ none
+    pub most : best ≤ never
     pub weighed : Apart → Weighed at best
 
-  pub stands-first : Stands 1 none
+  pub stands-first : Stands 1 never
   stands-first = record {
     low = omega arith;
     high = omega arith;
@@ -127,7 +119,7 @@ module _ (held fit : List ℕ) where
 
     -- the run from c up to `to`
     abbrev run : Run
-    run = record { left = c; size = to - c }
+    run = upTo c to
 
     edge-run : Apart → (leb c 1 || column held (c - 1)) ≡ true → Edge run
     edge-run a b = record {
@@ -158,7 +150,7 @@ module _ (held fit : List ℕ) where
         step (inr (inr x)) = absurd (omega (arith, x .gap))
 
     -- A RUN BEGINS AT c: it is weighed
-    pub stands-edge : {r : ℕ} → (leb c 1 || column held (c - 1)) ≡ true → r ≡ min ((to - c) * 512 + c) best → Stands to r
+    pub stands-edge : {r : ℕ} → (leb c 1 || column held (c - 1)) ≡ true → r ≡ min (key run) best → Stands to r
     stands-edge {r} b z = record {
       low = omega (arith, g .low);
       high = g .high;
@@ -173,9 +165,9 @@ module _ (held fit : List ℕ) where
         least a q e l (yes d) = omega (arith, o .weighed a .least q e d)
         least a q e l (no d) = omega (arith, same (edge-run a b) q e (only a q e (omega arith) l))
 
-        one : Apart → Dec (key run < best) → (r ≡ none) ⊎ ((q : Run) × Edge q × (key q ≡ r))
+        one : Apart → Dec (key run < best) → (r ≡ never) ⊎ ((q : Run) × Edge q × (key q ≡ r))
         one a (yes d) = inr (run, edge-run a b, omega arith)
-        one a (no d) = let e : best ≡ r = omega arith in subst (λ x. (x ≡ none) ⊎ ((q : Run) × Edge q × (key q ≡ x))) e (o .weighed a .one)
+        one a (no d) = let e : best ≡ r = omega arith in subst (λ x. (x ≡ never) ⊎ ((q : Run) × Edge q × (key q ≡ x))) e (o .weighed a .one)
 
     -- none begins at c, nor before `to`
     pub stands-over : (leb c 1 || column held (c - 1)) ≡ false → Stands to best
@@ -245,10 +237,6 @@ module _ (held fit : List ℕ) where
     in-edge : {q : Run} → q ∈ bestFit w rs → column fit (q .left) ≡ true → Edge q
     in-edge m e = record { longest = of-device (runs-longest free 1 W (fit-in w rs m .0)); fits = e }
 
-    less : (x q : Run) → Edge x → Better x q → q .left ≤ 256 → key x < key q
-    less x q e (narrower h) k = let l = e .longest .lies in omega (arith, l .high, l .not-empty)
-    less x q e (lefter z h) k = let y : x .size * 512 ≡ q .size * 512 = ap (λ s. s * 512) z in omega arith
-
     -- a run that is no edge does not pass
     dull : (q : Run) → q ∈ bestFit w rs → (Edge q → ⊥) → T (not (column fit (q .left)))
     dull q m f = step (bool (column fit (q .left)))
@@ -258,33 +246,30 @@ module _ (held fit : List ℕ) where
         step (inr t) = t
 
     -- NO EDGE: 0
-    pub stands-none : {at best : ℕ} → Stands at best → 257 ≤ at → none ≤ best → Picked (column fit) w rs 0
+    pub stands-none : {at best : ℕ} → Stands at best → 257 ≤ at → never ≤ best → Picked (column fit) w rs 0
     stands-none {at} {best} o h l = record {
       none = λ z. keep-none (λ x. column fit (x .left)) (bestFit w rs) (λ q m. dull q m (λ e. far q e));
       one = λ z. absurd (omega arith);
     }
       where
         far : (q : Run) → Edge q → ⊥
-        far q e = let k = e .longest .lies in omega (arith, o .weighed apart .least q e (omega (arith, k .high, k .not-empty)), k .high, k .not-empty)
+        far q e = let k = e .longest .lies in omega (arith, o .weighed apart .least q e (omega (arith, k .high, k .not-empty)), key-counts (omega arith) k .1)
 
     -- THE LEAST KEY'S LEFT EDGE
-    pub stands-one : {at best : ℕ} → Stands at best → 257 ≤ at → best < none → Picked (column fit) w rs (best % 512)
-    stands-one {at} {best} o h l = go (o .weighed apart .one)
+    pub stands-one : {at best r : ℕ} → Stands at best → 257 ≤ at → best < never → r ≡ leftOf best → Picked (column fit) w rs r
+    stands-one {at} {best} {r} o h l i = go (o .weighed apart .one)
       where
-        go : (best ≡ none) ⊎ ((q : Run) × Edge q × (key q ≡ best)) → Picked (column fit) w rs (best % 512)
+        go : (best ≡ never) ⊎ ((q : Run) × Edge q × (key q ≡ best)) → Picked (column fit) w rs r
         go (inl z) = absurd (omega arith)
         go (inr (q, e, z)) =
             let k = e .longest .lies in
-            let c : q .left ≡ best % 512 = omega (arith, k .high, k .not-empty) in
+            let c : q .left ≡ r = sym (key-left (omega arith) k) ∙ ap leftOf z ∙ sym i in
             record { none = λ y. absurd (omega (arith, k .low)); one = λ y. (q, c, first) }
           where
-            better : (x : Run) → Better x q → Edge x → ⊥
-            better x b f =
-                let k = e .longest .lies in
-                let j = f .longest .lies in
-                omega (arith, less x q f b (omega (arith, k .high, k .not-empty)), o .weighed apart .least x f (omega (arith, j .high, j .not-empty)))
+            lesser : (x : Run) → key x < key q → Edge x → ⊥
+            lesser x b f = let j = f .longest .lies in omega (arith, o .weighed apart .least x f (omega (arith, j .high, j .not-empty)))
 
             first : head? (keep (λ x. column fit (x .left)) (bestFit w rs)) ≡ some q
             first =
-                first-keep Better (λ x. column fit (x .left)) (best-sorted w free 1 W) (edge-in e) (subst T (sym (e .fits)) tt)
-                (λ x m b. dull x m (better x b))
+                first-keep (λ x y. key x < key y) (λ x. column fit (x .left)) (best-rising w free (d .small)) (edge-in e) (subst T (sym (e .fits)) tt)
+                (λ x m b. dull x m (lesser x b))

@@ -1,20 +1,11 @@
 // The left edges of runs of clear columns, in four words: which of them is taken.
 ghost use mathlib.Core.Path.{_≡_};
 ghost use mathlib.Core.Bool.{not, _||_};
-ghost use Prim.Native.Nat.{ℕ, _-_, _≤_, min};
+ghost use Prim.Native.Nat.{ℕ, _-_, _≤_};
 ghost use lib.Dec.{leb};
 ghost use Rattle.words.specs.Words.{column};
 ghost use Rattle.columns.specs.Columns.{columns, runs};
 ghost use Rattle.edges.specs.Edges.{Fitting, Picked};
-
-// No number: past every key.
-const NONE: u32 = 0xffff_ffff;
-
-fn lesser(x: u32, y: u32) -> u32
-    ensures { λ r. ⌜ r ≡ min x y ⌝ }
-{
-    if x < y { x } else { y }
-}
 
 // Whether a run of clear columns begins at c, a clear one.
 fn is_edge(held: [u64; 4], c: u32) -> bool
@@ -27,24 +18,28 @@ fn is_edge(held: [u64; 4], c: u32) -> bool
     words::next_set(held, c - 1) < c
 }
 
-// Of the runs of clear columns, narrowest first and of equals the leftmost, the first whose left edge is set in `fit`: its left edge, or 0.
+// Of the runs of clear columns, in best-fit order, the first whose left edge is set in `fit`: its left edge, or 0.
 // A column of `fit` is clear, so the search for its run's end begins behind it: the walk goes on whatever is lent.
 pub fn narrowest(held: [u64; 4], fit: [u64; 4]) -> u32
     ensures { λ r. ⌜ ((W w : ℕ) → Fitting held fit W w → Picked (column fit) w (runs (λ c. not (column held c)) (columns W)) r) ⌝ }
 {
-    let mut best = NONE;
+    let mut best = lists::NONE;
     let mut at: u32 = 1;
     while at < 257 {
         let c = words::next_set(fit, at);
         if c < 257 {
             let to = words::next_set(held, c + 1);
             if is_edge(held, c) {
-                best = lesser((to - c) * 512 + c, best);
+                best = lists::lesser(columns::key(c, to), best);
             }
             at = to;
         } else {
             at = 257;
         }
     }
-    if best < NONE { best % 512 } else { 0 }
+    if best < lists::NONE {
+        columns::left_of(best)
+    } else {
+        0
+    }
 }

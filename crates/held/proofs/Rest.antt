@@ -113,7 +113,7 @@ module _ (W now n : ℕ) (live : List ℕ) (o : OnDevice W n live) (w e d : ℕ)
   unfolding v ts ways booked stamped
   rest-jump g {x} b = next-end v 0 (lawful W now ts (asked w e d)) t x p (b .after) leaves (λ y u. none-clear g y (open-clear y u .0) u)
     where
-      leaves : (u : Task) → u ∈ ts → (y : ℕ) → T (meets (booked now (asked w e d) t y) u) → x ≤ lawful W now ts (asked w e d) .leaves u
+      leaves : (u : Task) → u ∈ ts → (y : ℕ) → T (meets (booked now (asked w e d) t y) u) → x ≤ lawful W now ts (asked w e d) .leaves t y u
       leaves u m y a =
           let j = meets-share (booked now (asked w e d) t y) u a .tick in
-          rw (leaves-finish W now ts (asked w e d) u) (next-of W n live o b u m (omega (arith, j .low₁, j .high₂)))
+          rw (leaves-finish W now ts (asked w e d) t y u) (next-of W n live o b u m (omega (arith, j .low₁, j .high₂)))

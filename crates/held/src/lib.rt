@@ -101,12 +101,6 @@ pub fn first_free(words: [u64; 4], from: u32, w: u32) -> u32
     0
 }
 
-fn lesser(x: u32, y: u32) -> u32
-    ensures { λ r. ⌜ r ≡ min x y ⌝ }
-{
-    if x < y { x } else { y }
-}
-
 // The next instant from which a stay of e ticks may meet other tasks than from t on: one has finished, or one has come into the stay.
 // Until then the columns that are held stay the same. The first n tasks are those that finish after t. A start is kept as what it lies
 // past the stay: one that has come into it wraps to a number too large to count.
@@ -116,14 +110,14 @@ pub fn next_change(live: &Live, n: usize, t: u32, e: u32) -> u32
 {
     let from = t + 1;
     let stay = t + e;
-    let mut best: u32 = 0xffff_ffff - from;
+    let mut best: u32 = lists::NONE - from;
     let mut i: usize = 0;
     while i < n {
-        best = lesser(
+        best = lists::lesser(
             std::num::wrapping_sub_u32(live[live::START + i], stay),
             best,
         );
         i += 1;
     }
-    lesser(from + best, live::next_finish(live, n))
+    lists::lesser(from + best, live::next_finish(live, n))
 }

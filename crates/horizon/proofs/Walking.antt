@@ -1,25 +1,25 @@
 -- Horizon's visits: what one look at a time says of the walk that every planner makes (planners' Walk). Assumes nothing.
-use Prim.Native.Nat.{ℕ, _-_, _%_, _≤_, _<_}
+use Prim.Native.Nat.{ℕ, _-_, _≤_, _<_}
 use mathlib.Core.Path.{_≡_, sym, ap, _∙_, subst}
 use mathlib.Core.Logic.{_⊎_, inl, inr}
 use mathlib.Core.Option.{some}
 use mathlib.Core.List.{List, [], map}
 use native.Mathlib.Omega.{arith}
 use native.Mathlib.Decide.{decLt}
-use Rattle.lists.specs.Lists.{_∈_, head?}
+use Rattle.lists.specs.Lists.{_∈_, head?, never}
 use Rattle.lists.proofs.Members.{map-in, in-map, range-in, in-range}
 use Rattle.ways.specs.Ways.{pair}
 use Rattle.tasks.specs.declared.Task.{Task}
 use Rattle.tasks.specs.declared.Submission.{Submission}
-use Rattle.columns.specs.Columns.{columns, Run, runs}
-use Rattle.columns.proofs.Runs.{Longest, runs-longest, longest-runs}
-use Rattle.columns.proofs.BestFit.{Better, narrower, lefter, best-head, best-none}
+use Rattle.columns.specs.Columns.{columns, Run, runs, key, leftOf}
+use Rattle.columns.proofs.Runs.{runs-longest, longest-runs}
+use Rattle.columns.proofs.BestFit.{Better, best-head, best-none, key-less, key-left, key-counts}
 use Rattle.planners.specs.declared.Found.the-variants.{Nothing, At}
 use Rattle.planners.specs.Planners.{release, leftEdge, releasedEdges, horizon}
 use Rattle.planners.specs.Lent.{foundOf}
 use Rattle.planners.proofs.Walk.{Visits, visits-hit, visits-none, visits-on}
 use Rattle.horizon.specs.declared.Seen.{Seen}
-use Rattle.horizon.specs.Look.{nil, keyOf, releasedBy, KeyIs, NextIs, Looked}
+use Rattle.horizon.specs.Look.{releasedBy, KeyIs, NextIs, Looked}
 
 -- the visits of Horizon
 abbrev pub Releases : (W now : ℕ) → List Task → Submission → ℕ → Type 0
@@ -27,7 +27,7 @@ Releases W now ts a t = Visits W now ts a (releasedEdges W now ts a) (map (relea
 
 module _ (W now : ℕ) (ts : List Task) (a : Submission) (wide : W ≤ 256) {t : ℕ} {o : Seen} (look : Looked (release now ts) W (a .w) t o) where
   -- a run of the list that is wide enough is one that the look weighed
-  weighed : (q : Run) → q ∈ runs (releasedBy (release now ts) t) (columns W) → a .w ≤ q .size → o .key ≤ keyOf q
+  weighed : (q : Run) → q ∈ runs (releasedBy (release now ts) t) (columns W) → a .w ≤ q .size → o .key ≤ key q
   weighed q m h = look .least q (record { longest = runs-longest (releasedBy (release now ts) t) 1 W m; wide = h })
 
   -- the least key is that of best fit's first
@@ -38,19 +38,17 @@ module _ (W now : ℕ) (ts : List Task) (a : Submission) (wide : W ≤ 256) {t :
       ap (λ l. head? (map (leftEdge t) l)) (b .1)
     where
       worse : (q : Run) → q ∈ runs (releasedBy (release now ts) t) (columns W) → a .w ≤ q .size → Better q (k .run) → ⊥
-      worse q m h b = step b (weighed q m h) (runs-longest (releasedBy (release now ts) t) 1 W m)
-        where
-          step : Better q (k .run) → o .key ≤ keyOf q → Longest (releasedBy (release now ts) t) 1 W q → ⊥
-          step (narrower l) z g = omega (arith, k .same, g .lies .high, g .lies .not-empty)
-          step (lefter e l) z g = omega (arith, k .same)
+      worse q m h b =
+          let g = runs-longest (releasedBy (release now ts) t) 1 W m in
+          omega (arith, k .same, weighed q m h, key-less wide (g .lies) (k .fits .longest .lies) b)
 
   -- no key: no run is wide enough
-  no-edge : nil ≤ o .key → releasedEdges W now ts a t ≡ []
+  no-edge : never ≤ o .key → releasedEdges W now ts a t ≡ []
   unfolding releasedEdges
   no-edge h =
       ap (map (leftEdge t)) (best-none (a .w) (runs (releasedBy (release now ts) t) (columns W)) (λ q m l.
       let g = runs-longest (releasedBy (release now ts) t) 1 W m in
-      omega (arith, weighed q m l, g .lies .high, g .lies .not-empty)))
+      omega (arith, weighed q m l, key-counts wide (g .lies) .1)))
 
   -- a release after t is not before the next one
   not-before : (x : ℕ) → x ∈ map (release now ts) (columns W) → (x ≤ t) ⊎ (o .next ≤ x)
@@ -65,27 +63,26 @@ module _ (W now : ℕ) (ts : List Task) (a : Submission) (wide : W ≤ 256) {t :
 
   module _ (v : Releases W now ts a t) where
     -- A RUN IS WIDE ENOUGH: that is the answer
-    pub release-hit : o .key < nil → At (o .key % 512) t ≡ foundOf (horizon W now ts a)
+    pub release-hit : {x : ℕ} → o .key < never → x ≡ leftOf (o .key) → At x t ≡ foundOf (horizon W now ts a)
     unfolding horizon
-    release-hit h = step (look .key)
+    release-hit {x} h z = step (look .key)
       where
-        step : (o .key ≡ nil) ⊎ KeyIs (release now ts) W (a .w) t (o .key) → At (o .key % 512) t ≡ foundOf (horizon W now ts a)
+        step : (o .key ≡ never) ⊎ KeyIs (release now ts) W (a .w) t (o .key) → At x t ≡ foundOf (horizon W now ts a)
         step (inl e) = absurd (omega arith)
         step (inr k) =
-            let g = k .fits .longest .lies in
-            let c : o .key % 512 ≡ k .run .left = omega (arith, k .same, g .high, g .not-empty) in
-            ap (λ x. At x t) c ∙ sym (ap foundOf (visits-hit W now ts a (releasedEdges W now ts a) (map (release now ts) (columns W)) v (first-edge k)))
+            let c : x ≡ k .run .left = z ∙ ap leftOf (k .same) ∙ key-left wide (k .fits .longest .lies) in
+            ap (λ y. At y t) c ∙ sym (ap foundOf (visits-hit W now ts a (releasedEdges W now ts a) (map (release now ts) (columns W)) v (first-edge k)))
 
     -- NONE IS LEFT: the submission is rejected
-    pub release-none : nil ≤ o .key → a .d - a .e < o .next → Nothing ≡ foundOf (horizon W now ts a)
+    pub release-none : never ≤ o .key → a .d - a .e < o .next → Nothing ≡ foundOf (horizon W now ts a)
     unfolding horizon
     release-none h l = sym (ap foundOf (visits-none W now ts a (releasedEdges W now ts a) (map (release now ts) (columns W)) v (no-edge h) not-before (omega arith)))
 
     -- THE NEXT VISITED TIME
-    pub release-on : nil ≤ o .key → o .next ≤ a .d - a .e → a .e ≤ a .d → a .d < nil → (t < o .next) × Releases W now ts a (o .next)
+    pub release-on : never ≤ o .key → o .next ≤ a .d - a .e → a .e ≤ a .d → a .d < never → (t < o .next) × Releases W now ts a (o .next)
     release-on h l g s = step (look .next)
       where
-        step : (o .next ≡ nil) ⊎ NextIs (release now ts) W t (o .next) → (t < o .next) × Releases W now ts a (o .next)
+        step : (o .next ≡ never) ⊎ NextIs (release now ts) W t (o .next) → (t < o .next) × Releases W now ts a (o .next)
         step (inl e) = absurd (omega arith)
         step (inr k) =
             let m : o .next ∈ map (release now ts) (columns W) =

@@ -1,6 +1,6 @@
 // Horizon: the first visited time with a run of released columns that is wide enough.
 ghost use mathlib.Core.Path.{_≡_};
-ghost use Prim.Native.Nat.{ℕ, _≤_, min};
+ghost use Prim.Native.Nat.{ℕ, _≤_};
 ghost use Rattle.planners.specs.Planners.{horizon};
 ghost use Rattle.live.specs.Live.{OnDevice, Falling, tasksOf};
 ghost use Rattle.planners.specs.Lent.{Fits, wanted, foundOf};
@@ -11,25 +11,19 @@ use planners::Found;
 use planners::Window;
 
 // What one pass over the columns at a time sees: the least key of a run that is wide enough, and the next release.
-// 0xffff_ffff is none: a key and a time are less.
+// lists::NONE is none: a key and a time are less.
 struct Seen {
     key: u32,
     next: u32,
 }
 
-fn lesser(x: u32, y: u32) -> u32
-    ensures { λ r. ⌜ r ≡ min x y ⌝ }
-{
-    if x < y { x } else { y }
-}
-
-// The least key, the run from `from` up to `to` tried too: the narrowest wide enough, the leftmost of equals, as one number.
+// The least key, the run from `from` up to `to` tried too, where it is wide enough.
 fn closed(w: u32, from: u32, to: u32, key: u32) -> u32
     requires { ⌜ (from ≤ to) × (to ≤ 257) ⌝ }
     ensures { λ r. ⌜ r ≡ tried w from to key ⌝ }
 {
     if w <= to - from {
-        return lesser((to - from) * 512 + from, key);
+        return lists::lesser(columns::key(from, to), key);
     }
     key
 }
@@ -39,8 +33,8 @@ fn look<'a>(past: &'a [u32; 256], at: &'a [u32; 256], n: usize, w: u32, t: u32) 
     requires { ⌜ (1 ≤ w) × Rises (now past) n ⌝ }
     ensures { λ r. ⌜ ((rel : ℕ → ℕ) (W : ℕ) → Pressed rel W (now (past .entry)) (now (at .entry)) n → Looked rel W w t r) ⌝ }
 {
-    let mut key: u32 = 0xffff_ffff;
-    let mut next: u32 = 0xffff_ffff;
+    let mut key = lists::NONE;
+    let mut next = lists::NONE;
     let mut from: u32 = 1;
     let mut to: u32 = 1;
     let mut i: usize = 0;
@@ -48,7 +42,7 @@ fn look<'a>(past: &'a [u32; 256], at: &'a [u32; 256], n: usize, w: u32, t: u32) 
         let x = at[i];
         let end = past[i];
         if t < x {
-            next = lesser(x, next);
+            next = lists::lesser(x, next);
             key = closed(w, from, to, key);
             from = end;
         }
@@ -75,9 +69,9 @@ pub fn horizon(live: &Live, count: usize, q: Window) -> Found
     let mut t = q.clock;
     'walk: loop {
         let o = look(&ends, &at, n, q.w, t);
-        if o.key < 0xffff_ffff {
+        if o.key < lists::NONE {
             break 'walk Found::At {
-                column: o.key % 512,
+                column: columns::left_of(o.key),
                 start: t,
             };
         }

@@ -4,7 +4,8 @@ use mathlib.Core.Path.{_≡_, refl, sym, ap, _∙_, subst}
 use mathlib.Core.Logic.{_⊎_, inl, inr}
 use mathlib.Core.Bool.{Bool, true, false, not, cond, _||_}
 use mathlib.Core.Option.{none, some}
-use mathlib.Core.List.{List, [], _∷_, map, List·Memᴰ·head as here, List·Memᴰ·tail as there, List·Memᴰ·cases-cons as cases, List·Memᴰ·not-nil as nowhere, Memᴰ·append-left, Memᴰ·append-right, List·Memᴰ·append-cases}
+use mathlib.Core.List.{List, [], _∷_, map, Memᴰ·append-left, Memᴰ·append-right, List·Memᴰ·append-cases}
+use mathlib.Core.List.{List·Memᴰ·head as here, List·Memᴰ·tail as there, List·Memᴰ·cases-cons as cases, List·Memᴰ·not-nil as nowhere}
 use native.Mathlib.Omega.{arith}
 use native.Mathlib.Decide.{ℕ-discrete as decEq}
 use lib.Dec.{T, leb, ltb, eqb, T-not}
@@ -204,12 +205,12 @@ module _ {A : Type 0} where
   head-in xs e = let r = head-some xs e in rw (r .1) (here refl)
 
   -- what sorting puts where: the same elements
-  pub insert-in : (key : A → ℕ) (a : A) (xs : List A) {x : A} → x ∈ insertBy key a xs → (x ≡ a) ⊎ (x ∈ xs)
+  pub insert-in : (before : A → A → Bool) (a : A) (xs : List A) {x : A} → x ∈ insertBy before a xs → (x ≡ a) ⊎ (x ∈ xs)
   unfolding insertBy
-  insert-in key a [] m = cases m
-  insert-in key a (y ∷ ys) {x} m = step (λ m′. insert-in key a ys m′) (leb (key a) (key y)) m
+  insert-in before a [] m = cases m
+  insert-in before a (y ∷ ys) {x} m = step (λ m′. insert-in before a ys m′) (before a y) m
     where
-      step : (x ∈ insertBy key a ys → (x ≡ a) ⊎ (x ∈ ys)) → (t : Bool) → x ∈ cond t (a ∷ y ∷ ys) (y ∷ insertBy key a ys) → (x ≡ a) ⊎ (x ∈ y ∷ ys)
+      step : (x ∈ insertBy before a ys → (x ≡ a) ⊎ (x ∈ ys)) → (t : Bool) → x ∈ cond t (a ∷ y ∷ ys) (y ∷ insertBy before a ys) → (x ≡ a) ⊎ (x ∈ y ∷ ys)
       step below true n = cases n
       step below false n = pick (cases n)
         where
@@ -217,41 +218,41 @@ module _ {A : Type 0} where
           deeper (inl z) = inl z
           deeper (inr k) = inr (there k)
 
-          pick : (x ≡ y) ⊎ (x ∈ insertBy key a ys) → (x ≡ a) ⊎ (x ∈ y ∷ ys)
+          pick : (x ≡ y) ⊎ (x ∈ insertBy before a ys) → (x ≡ a) ⊎ (x ∈ y ∷ ys)
           pick (inl z) = inr (here z)
           pick (inr k) = deeper (below k)
 
-  pub in-insert : (key : A → ℕ) (a : A) (xs : List A) {x : A} → (x ≡ a) ⊎ (x ∈ xs) → x ∈ insertBy key a xs
+  pub in-insert : (before : A → A → Bool) (a : A) (xs : List A) {x : A} → (x ≡ a) ⊎ (x ∈ xs) → x ∈ insertBy before a xs
   unfolding insertBy
-  in-insert key a [] (inl z) = here z
-  in-insert key a [] (inr m) = absurd (nowhere m)
-  in-insert key a (y ∷ ys) {x} m = step (λ m′. in-insert key a ys m′) (leb (key a) (key y)) m
+  in-insert before a [] (inl z) = here z
+  in-insert before a [] (inr m) = absurd (nowhere m)
+  in-insert before a (y ∷ ys) {x} m = step (λ m′. in-insert before a ys m′) (before a y) m
     where
-      step : ((x ≡ a) ⊎ (x ∈ ys) → x ∈ insertBy key a ys) → (t : Bool) → (x ≡ a) ⊎ (x ∈ y ∷ ys) → x ∈ cond t (a ∷ y ∷ ys) (y ∷ insertBy key a ys)
+      step : ((x ≡ a) ⊎ (x ∈ ys) → x ∈ insertBy before a ys) → (t : Bool) → (x ≡ a) ⊎ (x ∈ y ∷ ys) → x ∈ cond t (a ∷ y ∷ ys) (y ∷ insertBy before a ys)
       step below true (inl z) = here z
       step below true (inr n) = there n
       step below false (inl z) = there (below (inl z))
       step below false (inr n) = pick (cases n)
         where
-          pick : (x ≡ y) ⊎ (x ∈ ys) → x ∈ y ∷ insertBy key a ys
+          pick : (x ≡ y) ⊎ (x ∈ ys) → x ∈ y ∷ insertBy before a ys
           pick (inl z) = here z
           pick (inr k) = there (below (inr k))
 
-  pub sort-in : (key : A → ℕ) (xs : List A) {x : A} → x ∈ sortBy key xs → x ∈ xs
+  pub sort-in : (before : A → A → Bool) (xs : List A) {x : A} → x ∈ sortBy before xs → x ∈ xs
   unfolding sortBy
-  sort-in key [] m = m
-  sort-in key (y ∷ ys) {x} m = step (λ m′. sort-in key ys m′) (insert-in key y (sortBy key ys) m)
+  sort-in before [] m = m
+  sort-in before (y ∷ ys) {x} m = step (λ m′. sort-in before ys m′) (insert-in before y (sortBy before ys) m)
     where
-      step : (x ∈ sortBy key ys → x ∈ ys) → (x ≡ y) ⊎ (x ∈ sortBy key ys) → x ∈ y ∷ ys
+      step : (x ∈ sortBy before ys → x ∈ ys) → (x ≡ y) ⊎ (x ∈ sortBy before ys) → x ∈ y ∷ ys
       step below (inl z) = here z
       step below (inr k) = there (below k)
 
-  pub in-sort : (key : A → ℕ) (xs : List A) {x : A} → x ∈ xs → x ∈ sortBy key xs
+  pub in-sort : (before : A → A → Bool) (xs : List A) {x : A} → x ∈ xs → x ∈ sortBy before xs
   unfolding sortBy
-  in-sort key [] m = m
-  in-sort key (y ∷ ys) {x} m = in-insert key y (sortBy key ys) (step (λ m′. in-sort key ys m′) (cases m))
+  in-sort before [] m = m
+  in-sort before (y ∷ ys) {x} m = in-insert before y (sortBy before ys) (step (λ m′. in-sort before ys m′) (cases m))
     where
-      step : (x ∈ ys → x ∈ sortBy key ys) → (x ≡ y) ⊎ (x ∈ ys) → (x ≡ y) ⊎ (x ∈ sortBy key ys)
+      step : (x ∈ ys → x ∈ sortBy before ys) → (x ≡ y) ⊎ (x ∈ ys) → (x ≡ y) ⊎ (x ∈ sortBy before ys)
       step below (inl z) = inl z
       step below (inr k) = inr (below k)
 
@@ -304,7 +305,8 @@ in-add n [] (inl z) = here z
 in-add n [] (inr m) = absurd (nowhere m)
 in-add n (y ∷ ys) {x} m = step (λ m′. in-add n ys m′) (ltb n y) (eqb n y) refl m
   where
-    step : ((x ≡ n) ⊎ (x ∈ ys) → x ∈ addTo n ys) → (s t : Bool) → eqb n y ≡ t → (x ≡ n) ⊎ (x ∈ y ∷ ys) → x ∈ cond s (n ∷ y ∷ ys) (cond t (y ∷ ys) (y ∷ addTo n ys))
+    step : ((x ≡ n) ⊎ (x ∈ ys) → x ∈ addTo n ys) → (s t : Bool) → eqb n y ≡ t → (x ≡ n) ⊎ (x ∈ y ∷ ys)
+        → x ∈ cond s (n ∷ y ∷ ys) (cond t (y ∷ ys) (y ∷ addTo n ys))
     step below true t e (inl z) = here z
     step below true t e (inr k) = there k
     step below false true e (inl z) = here (z ∙ eqb-true n y e)

@@ -3,7 +3,7 @@ use Prim.Native.Nat.{ℕ, zero, suc, _+_, max}
 use mathlib.Core.Bool.{Bool, true, false, cond, _&&_, _||_}
 use mathlib.Core.List.{List, [], _∷_, _++_, List·Memᴰ}
 use mathlib.Core.Option.{Option, none, some}
-use lib.Dec.{leb, ltb, eqb}
+use lib.Dec.{ltb, eqb}
 use lib.ListN.{length, drop}
 
 -- a stands in the list xs
@@ -61,15 +61,15 @@ module _ {A : Type 0} where
   abbrev pub overFront : List A → List A → List A
   overFront xs buffer = xs ++ drop (length xs) buffer
 
-  -- x before the first element whose key is not smaller
-  unfoldable pub insertBy : (A → ℕ) → A → List A → List A
-  insertBy key x [] = x ∷ []
-  insertBy key x (y ∷ ys) = cond (leb (key x) (key y)) (x ∷ y ∷ ys) (y ∷ insertBy key x ys)
+  -- x before the first element that it goes before
+  unfoldable pub insertBy : (A → A → Bool) → A → List A → List A
+  insertBy before x [] = x ∷ []
+  insertBy before x (y ∷ ys) = cond (before x y) (x ∷ y ∷ ys) (y ∷ insertBy before x ys)
 
-  -- by rising key; what has the same key stays in the order that it had
-  unfoldable pub sortBy : (A → ℕ) → List A → List A
-  sortBy key [] = []
-  sortBy key (x ∷ xs) = insertBy key x (sortBy key xs)
+  -- in the order of a comparison
+  unfoldable pub sortBy : (A → A → Bool) → List A → List A
+  sortBy before [] = []
+  sortBy before (x ∷ xs) = insertBy before x (sortBy before xs)
 
 module _ {A B : Type 0} where
   -- f of each element, one list after the other
@@ -81,6 +81,10 @@ module _ {A B : Type 0} where
   unfoldable pub firstOf : (A → Option B) → List A → Option B
   firstOf f [] = none
   firstOf f (x ∷ xs) = orElse (f x) (firstOf f xs)
+
+-- no number: past every key and every time that counts
+abbrev pub never : ℕ
+never = 4294967295
 
 -- a, a + 1, and so on: n numbers
 unfoldable pub range : ℕ → ℕ → List ℕ

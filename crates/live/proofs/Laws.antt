@@ -6,10 +6,10 @@ use mathlib.Core.Bool.{Bool, true, false, _||_}
 use mathlib.Core.List.{List, [], _∷_, map, _++_, map-append}
 use native.Mathlib.Omega.{arith}
 use native.Mathlib.Decide.{decLe, decLt}
-use Rattle.lists.specs.Lists.{some?, range}
+use Rattle.lists.specs.Lists.{some?, range, never}
 use Rattle.lists.proofs.Append.{range-more, some-more}
 use Rattle.tasks.specs.declared.Task.{Task}
-use Rattle.live.specs.Live.{finishAt, taskAt, tasksOf, Falling, After, none, NextFinish}
+use Rattle.live.specs.Live.{finishAt, taskAt, tasksOf, Falling, After, NextFinish}
 
 module _ {live : List ℕ} where
   -- each of the first ones stays
@@ -60,7 +60,7 @@ some-after live p (suc n) k h f = go (λ q. some-after live p n k q (λ i l m. f
 
 -- THE NEXT FINISH is that of the last of the first ones
 module _ {live : List ℕ} {count t : ℕ} (f : Falling count live) where
-  pub next-none : After live count t 0 → t < none → NextFinish live count t none
+  pub next-none : After live count t 0 → t < never → NextFinish live count t never
   next-none a h = record { after = h; least = λ i p q. absurd (omega (arith, a .ended i (omega arith) p)); one = inl refl }
 
   pub next-last : {n : ℕ} → After live count t n → 1 ≤ n → NextFinish live count t (finishAt live (n - 1))

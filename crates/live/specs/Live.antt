@@ -6,7 +6,7 @@ use mathlib.Core.Bool.{false, _&&_}
 use mathlib.Core.List.{List, [], _∷_, map}
 use lib.Dec.{leb, ltb}
 use lib.ListN.{length, getD, set}
-use Rattle.lists.specs.Lists.{range}
+use Rattle.lists.specs.Lists.{range, never}
 use Rattle.tasks.specs.declared.Phase.the-variants.{Ended}
 use Rattle.tasks.specs.declared.Task.{Task}
 use Rattle.tasks.specs.Tasks.{finish, meets}
@@ -100,15 +100,11 @@ pub record After (live : List ℕ) (n t r : ℕ) : Type 0 where
   pub stays : (i : ℕ) → suc i ≡ r → t < finishAt live i
   pub ended : (i : ℕ) → r ≤ i → i < n → finishAt live i ≤ t
 
--- no finish: a number past every one
-abbrev pub none : ℕ
-none = 4294967295
-
--- r comes after t, no finish of the first n tasks lies between, and r is one of them or none
+-- r comes after t, no finish of the first n tasks lies between, and r is one of them or never
 pub record NextFinish (live : List ℕ) (n t r : ℕ) : Type 0 where
   pub after : t < r
   pub least : (i : ℕ) → i < n → t < finishAt live i → r ≤ finishAt live i
-  pub one : (r ≡ none) ⊎ ((i : ℕ) × (i < n) × (finishAt live i ≡ r))
+  pub one : (r ≡ never) ⊎ ((i : ℕ) × (i < n) × (finishAt live i ≡ r))
 
 -- the number of row r for a task that stands in a slot
 unfoldable pub number : ℕ → ℕ → Task → ℕ

@@ -6,8 +6,9 @@ ghost use mathlib.Core.List.{[], _∷_};
 ghost use Prim.Native.Nat.{ℕ, _≤_, _<_};
 ghost use lib.Dec.{eqb};
 ghost use lib.ListN.{length};
+ghost use Rattle.lists.specs.Lists.{never};
 ghost use Rattle.words.specs.Words.{bit, Least};
-ghost use Rattle.live.specs.Live.{Falling, After, none, NextFinish, putFrom, WordsPut};
+ghost use Rattle.live.specs.Live.{Falling, After, NextFinish, putFrom, WordsPut};
 
 // Starts, finishes, first columns, first columns past, ids, slots.
 pub type Live = [u32; 384];
@@ -45,10 +46,10 @@ pub fn after(live: &Live, n: usize, t: u32) -> usize
 // The next finish after t, where the first n tasks are those that finish after t; a number past every finish where there is none.
 pub fn next_finish(live: &Live, n: usize) -> u32
     requires { ⌜ n ≤ 64 ⌝ }
-    ensures { λ r. ⌜ ((count t : ℕ) → Falling count (now (live .entry)) → After (now (live .entry)) count t n → t < none → NextFinish (now (live .entry)) count t r) ⌝ }
+    ensures { λ r. ⌜ ((count t : ℕ) → Falling count (now (live .entry)) → After (now (live .entry)) count t n → t < never → NextFinish (now (live .entry)) count t r) ⌝ }
 {
     if n == 0 {
-        return 0xffff_ffff;
+        return lists::NONE;
     }
     live[FINISH + (n - 1)]
 }

@@ -115,7 +115,8 @@ module _ (D : Device) (now : ℕ) (ks : List Task) (n : ℕ) (rows : List ℕ) (
   meet-same i j g h = ap₂ meets (entry-task (o .each i g)) (entry-task (o .each j h))
 
   -- two slots, whichever stands first
-  both : Sorted Together (liveIn ks) → (s t : ℕ) → s < 64 → t < 64 → (s ≡ t → ⊥) → T (live (getD ks s freeSlot)) → T (live (getD ks t freeSlot)) → Together (getD ks s freeSlot) (getD ks t freeSlot)
+  both : Sorted Together (liveIn ks) → (s t : ℕ) → s < 64 → t < 64 → (s ≡ t → ⊥)
+      → T (live (getD ks s freeSlot)) → T (live (getD ks t freeSlot)) → Together (getD ks s freeSlot) (getD ks t freeSlot)
   both p s t a b e u v = go (decLt s t)
     where
       go : Dec (s < t) → Together (getD ks s freeSlot) (getD ks t freeSlot)
@@ -164,7 +165,8 @@ module _ (D : Device) (now : ℕ) (ks : List Task) (n : ℕ) (rows : List ℕ) (
                 ∙ sym (meet-same i j (omega arith) h) ∙ q .apart (is-true apart (and-r differ apart t)) i j l h);
           }
 
-          two : (s r : ℕ) → s < r → r < 64 → (i : ℕ) × (i < n) × (slotAt rows i ≡ s) → (j : ℕ) × (j < n) × (slotAt rows j ≡ r) → Together (getD ks s freeSlot) (getD ks r freeSlot)
+          two : (s r : ℕ) → s < r → r < 64 → (i : ℕ) × (i < n) × (slotAt rows i ≡ s) → (j : ℕ) × (j < n) × (slotAt rows j ≡ r)
+              → Together (getD ks s freeSlot) (getD ks r freeSlot)
           two s r l h p q =
               let here = go (decLt (p .0) (q .0)) (decEq (p .0) (q .0)) in
               subst (λ a. Together (getD ks a freeSlot) (getD ks r freeSlot)) (p .2) (subst (λ b. Together (task (p .0)) (getD ks b freeSlot)) (q .2) here)

@@ -12,7 +12,8 @@ use borrow.Author.Tests.{lt-ltb, le-ltb}
 use Rattle.lists.proofs.Bools.{is-true, is-false}
 use Rattle.tasks.specs.Tasks.{meets}
 use Rattle.tasks.proofs.Laws.{Share, meets-share, share-meets}
-use Rattle.live.specs.Live.{startAt, finishAt, leftAt, pastAt, taskAt, none, OnDevice, Falling, Apart}
+use Rattle.lists.specs.Lists.{never}
+use Rattle.live.specs.Live.{startAt, finishAt, leftAt, pastAt, taskAt, OnDevice, Falling, Apart}
 use Rattle.pairs.specs.Pairs.{Clash, Taken, Judged}
 
 -- the columns from left up to c are taken
@@ -104,15 +105,15 @@ pub record RowTo (n : ℕ) (rows row : List ℕ) (i : ℕ) : Type 0 where
   pub upto : i ≤ n
   pub apart : Apart i rows
   pub lower : (j c : ℕ) → j < i → leftAt rows j ≤ c → c < pastAt rows j → getD row c 0 ≤ startAt rows j
-  pub whose : (c : ℕ) → c < 257 → getD row c 0 < none → Taker rows i c (getD row c 0)
+  pub whose : (c : ℕ) → c < 257 → getD row c 0 < never → Taker rows i c (getD row c 0)
 
-pub row-none : (n : ℕ) (rows : List ℕ) → RowTo n rows (replicate 257 none) 0
+pub row-none : (n : ℕ) (rows : List ℕ) → RowTo n rows (replicate 257 never) 0
 row-none n rows = record {
-  size = length-replicate 257 none;
+  size = length-replicate 257 never;
   upto = omega arith;
   apart = λ i j l m. absurd (omega arith);
   lower = λ j c l. absurd (omega arith);
-  whose = λ c l m. absurd (let z = getD-replicate 257 c none 0 l in omega arith);
+  whose = λ c l m. absurd (let z = getD-replicate 257 c never 0 l in omega arith);
 }
 
 module _ {n : ℕ} {rows : List ℕ} (o : OnDevice 256 n rows) (f : Falling n rows) {row : List ℕ} {i : ℕ} (r : RowTo n rows row i) where
@@ -146,12 +147,12 @@ module _ {n : ℕ} {rows : List ℕ} (o : OnDevice 256 n rows) (f : Falling n ro
         lower j c l p q (no e) (no d) g = omega (arith, t .before c (omega arith), r .lower j c (omega arith) p q)
 
         -- another's column is as it was
-        kept : (c : ℕ) → c < 257 → getD next c 0 < none → getD next c 0 ≡ getD row c 0 → Taker rows (i + 1) c (getD next c 0)
+        kept : (c : ℕ) → c < 257 → getD next c 0 < never → getD next c 0 ≡ getD row c 0 → Taker rows (i + 1) c (getD next c 0)
         kept c l m e =
             let w = r .whose c l (omega arith) in
             record { it = w .it; sooner = omega (arith, w .sooner); from = w .from; to = w .to; start = w .start ∙ sym e }
 
-        whose : (c : ℕ) → c < 257 → getD next c 0 < none → Dec (leftAt rows i ≤ c) → Dec (c < pastAt rows i) → Taker rows (i + 1) c (getD next c 0)
+        whose : (c : ℕ) → c < 257 → getD next c 0 < never → Dec (leftAt rows i ≤ c) → Dec (c < pastAt rows i) → Taker rows (i + 1) c (getD next c 0)
         whose c l m (yes d) (yes g) = record { it = i; sooner = omega arith; from = d; to = g; start = sym (t .here c d g) }
         whose c l m (yes d) (no g) = kept c l m (t .behind c (omega arith))
         whose c l m (no d) g = kept c l m (t .before c (omega arith))

@@ -1,6 +1,6 @@
 // Whether the slots make a sound board: what the survey found, and each pair of live tasks.
 ghost use mathlib.Core.Path.{_≡_};
-ghost use mathlib.Core.Bool.{not, cond};
+ghost use mathlib.Core.Bool.{not};
 ghost use Prim.Native.Nat.{ℕ, _+_, _-_, _<_, _≤_};
 ghost use lib.Dec.{eqb};
 ghost use lib.ListN.{length};
@@ -15,14 +15,6 @@ use survey::Findings;
 use tasks::Device;
 use tasks::Task;
 
-// 1 for a clash.
-fn hit(clash: bool) -> u32
-    ensures { λ r. ⌜ r ≡ cond clash 1 0 ⌝ }
-    ensures { λ r. ⌜ r ≤ 1 ⌝ }
-{
-    if clash { 1 } else { 0 }
-}
-
 // How many of the tasks after i, up to n, have the id of task i. They are counted and the walk is not left early: that is done
 // several at a time.
 fn same_ids(live: &Live, i: usize, n: usize) -> u32
@@ -33,7 +25,7 @@ fn same_ids(live: &Live, i: usize, n: usize) -> u32
     let mut hits: u32 = 0;
     let mut j = i + 1;
     while j < n {
-        hits += hit(id == live[live::ID + j]);
+        hits += lists::one_if(id == live[live::ID + j]);
         j += 1;
     }
     hits
@@ -64,7 +56,7 @@ fn take(row: &mut [u32; 257], left: u32, past: u32, start: u32, finish: u32) -> 
     let mut c = left;
     while c < past {
         let at = c as usize;
-        hits += hit(row[at] < finish);
+        hits += lists::one_if(row[at] < finish);
         row[at] = start;
         c += 1;
     }

@@ -73,7 +73,9 @@ module _ (W now : ℕ) (ts : List Task) (a : Submission) where
 -- REFERENCE is Stuffing with no time after now: its deadline is now + e
 pub reference-is : (W now : ℕ) (ts : List Task) (w e d : ℕ) → reference W now ts (asked w e d) ≡ stuffing W now ts (asked w e (now + e))
 unfolding reference stuffing visited firstOf orElse candidates clearOfWaiting booked stamped meets
-reference-is W now ts w e d = last (head? (candidates W now ts (asked w e (now + e)) now)) ∙ ap (λ l. firstOf (λ i. head? (candidates W now ts (asked w e (now + e)) i)) (now ∷ l)) (sym none-later)
+reference-is W now ts w e d =
+    last (head? (candidates W now ts (asked w e (now + e)) now))
+    ∙ ap (λ l. firstOf (λ i. head? (candidates W now ts (asked w e (now + e)) i)) (now ∷ l)) (sym none-later)
   where
     last : (o : Option Place) → o ≡ orElse o none
     last none = refl

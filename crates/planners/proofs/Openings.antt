@@ -46,7 +46,7 @@ module _ (W now : ℕ) (ts : List Task) (a : Submission) where
   pub lawful : Lawful (ways W now ts a) 0
   unfolding ways meets booked stamped
   lawful = record {
-    leaves = finish;
+    leaves = λ s c u. finish u;
     stays = λ s v c u m l h.
         let x = overlap c (a .w) (u .column) (u .w) in
         let y = overlap s (a .e) (u .start) (u .e) in
@@ -57,9 +57,9 @@ module _ (W now : ℕ) (ts : List Task) (a : Submission) where
     first = λ c m. lt→ltb 0 c (range-in 1 (suc W - a .w) m .low);
   }
 
-  pub leaves-finish : (u : Task) → lawful .leaves u ≡ finish u
+  pub leaves-finish : (s c : ℕ) (u : Task) → lawful .leaves s c u ≡ finish u
   unfolding lawful
-  leaves-finish u = refl
+  leaves-finish s c u = refl
 
   after-before : (p q : Place) → After (ways W now ts a) p q → Before p q
   unfolding ways
@@ -109,7 +109,8 @@ module _ (W now : ℕ) (ts : List Task) (a : Submission) where
   openings-ordered = sorted-by (After (ways W now ts a)) Before after-before (openings-sorted (ways W now ts a) 0 lawful)
 
   -- AND THE ONLY SUCH LIST
-  pub openings-only : (ps : List Place) → Sorted Before ps → ((p : Place) → p ∈ ps → Opening W now ts a p) → ((p : Place) → Opening W now ts a p → p ∈ ps) → ps ≡ openings W now ts a
+  pub openings-only : (ps : List Place) → Sorted Before ps → ((p : Place) → p ∈ ps → Opening W now ts a p)
+      → ((p : Place) → Opening W now ts a p → p ∈ ps) → ps ≡ openings W now ts a
   openings-only ps s f g =
       openings-unique (ways W now ts a) 0 lawful ps (sorted-by Before (After (ways W now ts a)) before-after s)
       (λ q m. opening-open q (f q m)) (λ q o. g q (open-opening q o))

@@ -6,20 +6,21 @@ use mathlib.Core.Option.{Option, none, some}
 use mathlib.Core.List.{List, [], map, List·Memᴰ·head as here, List·Memᴰ·tail as there, List·Memᴰ·cases-cons as cases, List·Memᴰ·not-nil as nowhere}
 use native.Mathlib.Omega.{arith}
 use native.Mathlib.Decide.{decLt, ℕ-discrete as decEq}
-use Rattle.lists.specs.Lists.{_∈_, head?, orElse, firstOf}
+use Rattle.lists.specs.Lists.{_∈_, head?, orElse, firstOf, never}
 use Rattle.lists.proofs.Members.{map-in, in-map}
 use Rattle.lists.proofs.Order.{Sorted, empty, next, none-first}
 use Rattle.tasks.specs.declared.Task.{Task}
 use Rattle.tasks.specs.declared.Submission.{Submission}
 use Rattle.tasks.specs.Tasks.{finish}
-use Rattle.live.specs.Live.{finishAt, tasksOf, OnDevice, NextFinish, none as never}
+use Rattle.live.specs.Live.{finishAt, tasksOf, OnDevice, NextFinish}
 use Rattle.planners.specs.Openings.{Place}
 use Rattle.planners.specs.Planners.{visited}
 use Rattle.planners.proofs.Lent.{task-in, in-tasks, finish-at}
 use Rattle.planners.proofs.Planners.{visited-in, in-visited, now-visited, visited-rising}
 
 -- the answer at the least number that has one is the first along a rising list
-pub first-is : {B : Type 0} (f : ℕ → Option B) {xs : List ℕ} → Sorted _<_ xs → {t : ℕ} → t ∈ xs → {b : B} → f t ≡ some b → ((i : ℕ) → i ∈ xs → i < t → f i ≡ none) → firstOf f xs ≡ some b
+pub first-is : {B : Type 0} (f : ℕ → Option B) {xs : List ℕ} → Sorted _<_ xs → {t : ℕ} → t ∈ xs → {b : B} → f t ≡ some b
+    → ((i : ℕ) → i ∈ xs → i < t → f i ≡ none) → firstOf f xs ≡ some b
 unfolding firstOf orElse
 first-is f empty m e g = absurd (nowhere m)
 first-is {B} f (next {x} {xs} h s) {t} m {b} e g = step (λ n. first-is f s n e (λ i k l. g i (there k) l)) (cases m)

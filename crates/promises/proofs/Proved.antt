@@ -10,7 +10,7 @@ use Rattle.promises.specs.Cases.{submit, clock}
 use Rattle.lists.specs.Lists.{keep, some?, all?, pairwise?, head?, orElse, lastOr, indexOf, putFirst, insertBy, sortBy, each, firstOf, range, highest, addTo, rising}
 use Rattle.ways.specs.Ways.{isOpen, pairsIn, openingsIn, after, openingsAfter, askedOn}
 use Rattle.tasks.specs.Tasks.{meets, covers, holds, phaseAt, stamped, zeros, booked}
-use Rattle.columns.specs.Columns.{join, runs, bestFit}
+use Rattle.columns.specs.Columns.{join, runs, better, bestFit}
 use Rattle.planners.specs.Openings.{ways, full, pairWords}
 use Rattle.planners.specs.Planners.{free, release, visited, clearOfWaiting, candidates, releasedEdges, reference, horizon, stuffing, planned}
 use Rattle.slots.specs.Slots.{taskSound, slotSound, together, sound, named, known, withBooked, agedTo, allAgedTo, withoutNamed, begunNamed}
@@ -30,7 +30,7 @@ unfolding keep some? all? pairwise? head? orElse lastOr indexOf putFirst insertB
 open-lists = tt
 
 open-planners : Unit {0}
-unfolding meets covers holds phaseAt stamped zeros booked join runs bestFit ways full free release visited clearOfWaiting candidates releasedEdges reference horizon stuffing planned
+unfolding meets covers holds phaseAt stamped zeros booked join runs better bestFit ways full free release visited clearOfWaiting candidates releasedEdges reference horizon stuffing planned
 open-planners = tt
 
 open-lookups : Unit {0}

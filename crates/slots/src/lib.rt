@@ -1,6 +1,5 @@
 // The 64 slots of a board: whether each by itself is sound, which has an id, and what the clock makes of them.
 ghost use mathlib.Core.Path.{_≡_};
-ghost use mathlib.Core.Bool.{cond};
 ghost use Prim.Native.Nat.{_≤_};
 ghost use Rattle.lists.specs.Lists.{indexOf};
 ghost use Rattle.tasks.specs.declared.Task.{Task};
@@ -34,14 +33,6 @@ pub fn slot_sound(on: Device, now: u32, k: Task) -> bool
     } else {
         tasks::is_zeros(k)
     }
-}
-
-// 1 for a live slot.
-pub fn one_if(live: bool) -> usize
-    ensures { λ r. ⌜ r ≡ cond live 1 0 ⌝ }
-    ensures { λ r. ⌜ r ≤ 1 ⌝ }
-{
-    if live { 1 } else { 0 }
 }
 
 // A slot at an instant: a task that has finished leaves it free, another has the phase of the instant.

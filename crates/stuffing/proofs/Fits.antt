@@ -1,5 +1,5 @@
 -- The walk along a row: the runs that begin before the place where it stands are listed; at the end all are. Assumes nothing.
-use Prim.Native.Nat.{ℕ, suc, _+_, _-_, _*_, _≤_, _<_}
+use Prim.Native.Nat.{ℕ, suc, _+_, _-_, _≤_, _<_}
 use mathlib.Core.Path.{_≡_, refl, sym, ap, _∙_, subst}
 use mathlib.Core.Logic.{_⊎_, inl, inr}
 use mathlib.Core.Bool.{Bool, true, false, cond}
@@ -9,11 +9,12 @@ use native.Mathlib.Decide.{decLt, ℕ-discrete as decEq}
 use lib.Dec.{T, leb, leb→le, le→leb, nleb→lt}
 use lib.ListN.{length, getD, set, length-set}
 use lib.Seq.{getD-set-same, getD-set-other}
-use Rattle.lists.specs.Lists.{_∈_, range}
+use Rattle.lists.specs.Lists.{_∈_, range, never}
 use Rattle.lists.proofs.Members.{all-pass, pass-all, in-range, range-in}
-use Rattle.columns.specs.Columns.{columns, Run, runs}
+use Rattle.columns.specs.Columns.{columns, Run, runs, key, upTo}
 use Rattle.columns.proofs.Runs.{Longest, runs-longest, longest-runs}
-use Rattle.stuffing.specs.Fit.{unheld, Stretches, FirstHeld, key, none, Listed, NextKey, NextFit}
+use Rattle.columns.proofs.BestFit.{key-same}
+use Rattle.stuffing.specs.Fit.{unheld, Stretches, FirstHeld, Listed, NextKey, NextFit}
 
 -- the number x is the key of a longest run that begins before `from` and is wide enough
 abbrev pub Stands : (passes : ℕ → Bool) (W w from x : ℕ) → Type 0
@@ -40,7 +41,7 @@ pub record Standing (passes : ℕ → Bool) (W w : ℕ) (keys : List ℕ) (m fro
 -- the open run has ended at c: it is listed too, if it is wide enough
 module _ {passes : ℕ → Bool} {W w : ℕ} {keys : List ℕ} {m from c : ℕ} (o : Standing passes W w keys m from c) (ended : c ≤ W → T (passes c) → ⊥) where
   -- the run from `from` up to c
-  open-run : Longest passes 1 W (record { left = from; size = c - from })
+  open-run : Longest passes 1 W (upTo from c)
   open-run = record {
     lies = record { low = o .low; high = omega (arith, o .high); not-empty = omega (arith, o .order); passes = λ k p q. o .passing k p (omega arith) };
     left-end = λ k e p t. o .edge k e p t;
@@ -63,17 +64,14 @@ module _ {passes : ℕ → Bool} {W w : ℕ} {keys : List ℕ} {m from c : ℕ} 
       sizes z (no a) (no b) = omega arith
 
   -- THE RUNS THAT BEGIN BEFORE c ARE LISTED
-  pub list-one : {r : ℕ} → r ≡ cond (leb w (c - from)) 1 0 → Listing passes W w (set keys m ((c - from) * 512 + from)) (m + r) c
-  list-one {r} e = go (leb w (c - from)) refl
+  pub list-one : {k r : ℕ} → k ≡ key (upTo from c) → r ≡ cond (leb w (c - from)) 1 0 → Listing passes W w (set keys m k) (m + r) c
+  list-one {k} {r} y e = go (leb w (c - from)) refl
     where
-      k : ℕ
-      k = (c - from) * 512 + from
-
       next : List ℕ
       next = set keys m k
 
-      here : getD next m 0 ≡ k
-      here = getD-set-same keys m k 0 (o .room)
+      here : getD next m 0 ≡ key (upTo from c)
+      here = getD-set-same keys m k 0 (o .room) ∙ y
 
       other : (i : ℕ) → i < m → getD next i 0 ≡ getD keys i 0
       other i h = getD-set-other keys m i k 0 (λ z. omega arith)
@@ -92,13 +90,13 @@ module _ {passes : ℕ → Bool} {W w : ℕ} {keys : List ℕ} {m from c : ℕ} 
           each i l (yes d) = old-each i d
           each i l (no d) =
               let y : m ≡ i = omega arith in
-              subst (λ x. Stands passes W w c (getD next x 0)) y (record { left = from; size = c - from }, open-run, o .order, h, sym here)
+              subst (λ x. Stands passes W w c (getD next x 0)) y (upTo from c, open-run, o .order, h, sym here)
 
           all : (q : Run) → Longest passes 1 W q → q .left < c → w ≤ q .size → Dec (q .left < from) → (i : ℕ) × (i < m + r) × (getD next i 0 ≡ key q)
           all q p b l (yes d) = old-all (omega arith) q p d l
           all q p b l (no d) =
               let y = is-open q p (omega arith) b in
-              (m, omega arith, here ∙ sym (ap (λ x. x * 512 + q .left) (y .1) ∙ ap (λ x. (c - from) * 512 + x) (y .0)))
+              (m, omega arith, here ∙ sym (key-same q (upTo from c) (y .0) (y .1)))
 
       -- it is narrow: the next one takes its place
       without : c - from < w → r ≡ 0 → Listing passes W w next (m + r) c
@@ -192,12 +190,13 @@ module _ {row : List ℕ} {W w : ℕ} {keys : List ℕ} {m from : ℕ} (o : Pass
   pass-room small h z = omega (arith, o .fewer h z)
 
   -- it reaches up to the next stretch
-  pub pass-free : {to : ℕ} → W ≤ 256 → from ≤ W → getD row from 0 ≡ 0 → FirstHeld row (from + 1) W to → {r : ℕ} → r ≡ cond (leb w (to - from)) 1 0 → r ≤ 1
-      → Passed row W w (set keys m ((to - from) * 512 + from)) (m + r) to
-  pass-free {to} small inside z f {r} e one = record {
+  pub pass-free : {to : ℕ} → W ≤ 256 → from ≤ W → getD row from 0 ≡ 0 → FirstHeld row (from + 1) W to
+      → {k r : ℕ} → k ≡ key (upTo from to) → r ≡ cond (leb w (to - from)) 1 0 → r ≤ 1
+      → Passed row W w (set keys m k) (m + r) to
+  pass-free {to} small inside z f {k} {r} x e one = record {
     low = omega (arith, o .low, f .low);
     high = f .high;
-    size = length-set keys m ((to - from) * 512 + from) ∙ o .size;
+    size = length-set keys m k ∙ o .size;
     few = omega (arith, o .fewer inside z, f .low);
     fewer = λ p y. absurd (omega (arith, f .held p));
     clear = λ k l h. clear k l h to (omega (arith, f .low)) (decLt k from);
@@ -210,7 +209,7 @@ module _ {row : List ℕ} {W w : ℕ} {keys : List ℕ} {m from : ℕ} (o : Pass
       passing = free;
       edge = λ k q m t. o .edge inside k q m (free from (omega arith) (omega (arith, f .low))) t;
       listed = o .listed;
-    }) ended e;
+    }) ended x e;
   }
     where
       zeros : (k : ℕ) → from ≤ k → k < to → getD row k 0 ≡ 0
@@ -245,6 +244,7 @@ next-listed {passes} {W} {w} {keys} {m} {after} {r} o n = record { least = least
     least : (q : Run) → q ∈ runs passes (columns W) → w ≤ q .size → after < key q → r ≤ key q
     least q i l a = let s = o .all q i l in omega (arith, s .2, n .least (s .0) (s .1) (omega (arith, s .2)))
 
-    found : (r ≡ none) ⊎ ((i : ℕ) × (i < m) × (getD keys i 0 ≡ r)) → (r ≡ none) ⊎ ((q : Run) × (q ∈ runs passes (columns W)) × (w ≤ q .size) × (after < key q) × (key q ≡ r))
+    found : (r ≡ never) ⊎ ((i : ℕ) × (i < m) × (getD keys i 0 ≡ r))
+        → (r ≡ never) ⊎ ((q : Run) × (q ∈ runs passes (columns W)) × (w ≤ q .size) × (after < key q) × (key q ≡ r))
     found (inl z) = inl z
     found (inr z) = let s = o .each (z .0) (z .1) in inr (s .0, s .1, s .2, omega (arith, s .3, z .2, n .past), s .3 ∙ z .2)

@@ -10,18 +10,18 @@ use lib.Dec.{T, leb}
 use borrow.Author.Tests.{le-leb, leb-true}
 use lib.ListN.{length, getD, set, replicate, length-set}
 use lib.Seq.{getD-set-same, getD-set-other}
-use Rattle.lists.specs.Lists.{_∈_, some?}
+use Rattle.lists.specs.Lists.{_∈_, some?, never}
 use Rattle.lists.proofs.Bools.{bool, same-bool}
 use Rattle.lists.proofs.Members.{none-pass, pass-none}
 use Rattle.tasks.specs.Tasks.{holds}
 use Rattle.tasks.proofs.Laws.{Share, share-meets, Holds, holds-out, holds-in}
-use Rattle.columns.specs.Columns.{columns, Run, runs}
+use Rattle.columns.specs.Columns.{columns, Run, runs, key}
 use Rattle.columns.proofs.Runs.{runs-same}
 use Rattle.planners.specs.Planners.{free}
 use Rattle.live.specs.Live.{startAt, leftAt, pastAt, taskAt, tasksOf, OnDevice, Falling, Apart, After}
 use Rattle.live.proofs.Laws.{after-stays}
 use Rattle.planners.proofs.Lent.{task-in, in-tasks}
-use Rattle.stuffing.specs.Fit.{Marked, unheld, Stretches, key, none, NextFit}
+use Rattle.stuffing.specs.Fit.{Marked, unheld, Stretches, NextFit}
 use Rattle.stuffing.proofs.Fits.{unheld-out, unheld-in}
 
 -- fewer tasks, and a device that is not wider than the widest
@@ -118,12 +118,12 @@ module _ {W count n t : ℕ} {live row : List ℕ} (d : OnDevice W count live) (
             tick = record { it = t; low₁ = s; high₁ = omega arith; low₂ = u; high₂ = omega arith };
           }
 
-      never : (i j : ℕ) → i < j → j < n → Share (taskAt live i) (taskAt live j) → ⊥
-      never i j l h q = subst T (p i j l (omega (arith, a .few))) (share-meets (taskAt live i) (taskAt live j) q)
+      barred : (i j : ℕ) → i < j → j < n → Share (taskAt live i) (taskAt live j) → ⊥
+      barred i j l h q = subst T (p i j l (omega (arith, a .few))) (share-meets (taskAt live i) (taskAt live j) q)
 
       go : Dec (i < j) → Dec (j < i) → i ≡ j
-      go (yes l) q = absurd (never i j l h (shared i j g h s u x y))
-      go (no l) (yes q) = absurd (never j i q g (shared j i h g u s y x))
+      go (yes l) q = absurd (barred i j l h (shared i j g h s u x y))
+      go (no l) (yes q) = absurd (barred j i q g (shared j i h g u s y x))
       go (no l) (no q) = omega arith
 
   pub stretches : Stretches W row
@@ -196,7 +196,7 @@ module _ {W count n t : ℕ} {live row : List ℕ} (d : OnDevice W count live) (
       e : runs (unheld row) (columns W) ≡ runs (free (tasksOf count live) t) (columns W)
       e = runs-same (unheld row) (free (tasksOf count live) t) 1 W (λ k l h. same k)
 
-      found : (r ≡ none) ⊎ ((q : Run) × (q ∈ runs (unheld row) (columns W)) × (w ≤ q .size) × (after < key q) × (key q ≡ r))
-          → (r ≡ none) ⊎ ((q : Run) × (q ∈ runs (free (tasksOf count live) t) (columns W)) × (w ≤ q .size) × (after < key q) × (key q ≡ r))
+      found : (r ≡ never) ⊎ ((q : Run) × (q ∈ runs (unheld row) (columns W)) × (w ≤ q .size) × (after < key q) × (key q ≡ r))
+          → (r ≡ never) ⊎ ((q : Run) × (q ∈ runs (free (tasksOf count live) t) (columns W)) × (w ≤ q .size) × (after < key q) × (key q ≡ r))
       found (inl z) = inl z
       found (inr z) = inr (z .0, subst (λ x. z .0 ∈ x) e (z .1), z .2, z .3, z .4)

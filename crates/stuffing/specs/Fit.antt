@@ -1,15 +1,15 @@
 -- What the steps of Stuffing's two walks find: code-level definitions; no promise of a public call cites them. Assumes nothing.
-use Prim.Native.Nat.{ℕ, suc, _+_, _*_, _≤_, _<_}
+use Prim.Native.Nat.{ℕ, suc, _≤_, _<_}
 use mathlib.Core.Path.{_≡_}
 use mathlib.Core.Logic.{_⊎_}
 use mathlib.Core.Bool.{Bool, _&&_}
 use mathlib.Core.List.{List}
 use lib.Dec.{leb}
 use lib.ListN.{getD}
-use Rattle.lists.specs.Lists.{_∈_, all?, range}
+use Rattle.lists.specs.Lists.{_∈_, all?, range, never}
 use Rattle.tasks.specs.declared.Task.{Task}
 use Rattle.tasks.specs.Tasks.{overlap}
-use Rattle.columns.specs.Columns.{columns, Run, runs}
+use Rattle.columns.specs.Columns.{columns, Run, runs, key}
 use Rattle.live.specs.Live.{startAt, leftAt, pastAt}
 
 -- a stay on w columns from c on, e ticks from t on, shares a column with the task at a tick
@@ -39,27 +39,19 @@ pub record FirstHeld (row : List ℕ) (from W r : ℕ) : Type 0 where
   pub free : (k : ℕ) → from ≤ k → k < r → getD row k 0 ≡ 0
   pub held : r ≤ W → 0 < getD row r 0
 
--- a run's key: less where it is narrower, or as narrow and further left
-abbrev pub key : Run → ℕ
-key r = r .size * 512 + r .left
-
--- no key
-abbrev pub none : ℕ
-none = 4294967295
-
 -- the first m of the keys are those of the runs of at least w columns
 pub record Listed (passes : ℕ → Bool) (W w : ℕ) (keys : List ℕ) (m : ℕ) : Type 0 where
   pub few : m ≤ 129
   pub each : (i : ℕ) → i < m → (q : Run) × (q ∈ runs passes (columns W)) × (w ≤ q .size) × (key q ≡ getD keys i 0)
   pub all : (q : Run) → q ∈ runs passes (columns W) → w ≤ q .size → (i : ℕ) × (i < m) × (getD keys i 0 ≡ key q)
 
--- r is the least past `after` of the first m keys, or none
+-- r is the least past `after` of the first m keys, or never
 pub record NextKey (keys : List ℕ) (m after r : ℕ) : Type 0 where
   pub past : after < r
   pub least : (i : ℕ) → i < m → after < getD keys i 0 → r ≤ getD keys i 0
-  pub one : (r ≡ none) ⊎ ((i : ℕ) × (i < m) × (getD keys i 0 ≡ r))
+  pub one : (r ≡ never) ⊎ ((i : ℕ) × (i < m) × (getD keys i 0 ≡ r))
 
--- r is the least key past `after` of a run of at least w columns, or none
+-- r is the least key past `after` of a run of at least w columns, or never
 pub record NextFit (passes : ℕ → Bool) (W w after r : ℕ) : Type 0 where
   pub least : (q : Run) → q ∈ runs passes (columns W) → w ≤ q .size → after < key q → r ≤ key q
-  pub one : (r ≡ none) ⊎ ((q : Run) × (q ∈ runs passes (columns W)) × (w ≤ q .size) × (after < key q) × (key q ≡ r))
+  pub one : (r ≡ never) ⊎ ((q : Run) × (q ∈ runs passes (columns W)) × (w ≤ q .size) × (after < key q) × (key q ≡ r))

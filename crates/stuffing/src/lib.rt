@@ -1,9 +1,9 @@
 // Stuffing (Algorithm 2 of the source) over the live tasks that are lent, by the plain method: column by column.
 ghost use mathlib.Core.Path.{_≡_};
 ghost use mathlib.Core.Bool.{cond};
-ghost use Prim.Native.Nat.{_+_, _≤_, _<_, min};
+ghost use Prim.Native.Nat.{_+_, _≤_, _<_};
 ghost use lib.ListN.{length, replicate};
-ghost use Rattle.lists.specs.Lists.{some?};
+ghost use Rattle.lists.specs.Lists.{some?, never};
 ghost use Rattle.planners.specs.Planners.{stuffing};
 ghost use Rattle.live.specs.Live.{OnDevice, Falling, Apart, After, tasksOf};
 ghost use Rattle.planners.specs.Lent.{foundOf, Fits, wanted};
@@ -11,9 +11,6 @@ ghost use Rattle.stuffing.specs.Fit.{meetsAt, Marked, unheld, Stretches,
 use live::Live;
 use planners::Found;
 use planners::Window;
-
-// No number: past every key.
-const NONE: u32 = 0xffff_ffff;
 
 // A number of a row, widened: of an element it asks nothing but the index.
 fn wide(x: u16) -> u32
@@ -60,15 +57,7 @@ fn first_held(row: &[u16; 257], from: u32, width: u32) -> u32
     c
 }
 
-// 1 for an interval that is wide enough.
-fn one_if(fits: bool) -> usize
-    ensures { λ r. ⌜ r ≡ cond fits 1 0 ⌝ }
-    ensures { λ r. ⌜ r ≤ 1 ⌝ }
-{
-    if fits { 1 } else { 0 }
-}
-
-// The keys of the free intervals that are wide enough, size * 512 + left edge, from left to right; gives their number. Each is stored, and
+// The keys of the free intervals that are wide enough, from left to right; gives their number. Each is stored, and
 // counted only where it is wide enough: no branch to miss.
 fn list_fits(row: &[u16; 257], width: u32, w: u32, keys: &mut [u32; 129]) -> usize
     requires { ⌜ (width ≤ 256) × (1 ≤ w) × (w ≤ 256) × Stretches width (now row) × (length (now keys) ≡ 129) ⌝ }
@@ -81,8 +70,8 @@ fn list_fits(row: &[u16; 257], width: u32, w: u32, keys: &mut [u32; 129]) -> usi
         let past = wide(row[at]);
         if past == 0 {
             let to = first_held(row, from + 1, width);
-            keys[m] = (to - from) * 512 + from;
-            m += one_if(w <= to - from);
+            keys[m] = columns::key(from, to);
+            m += lists::one_if(w <= to - from) as usize;
             from = to;
         } else {
             from = past;
@@ -91,23 +80,17 @@ fn list_fits(row: &[u16; 257], width: u32, w: u32, keys: &mut [u32; 129]) -> usi
     m
 }
 
-fn lesser(x: u32, y: u32) -> u32
-    ensures { λ r. ⌜ r ≡ min x y ⌝ }
-{
-    if x < y { x } else { y }
-}
-
-// The least key after `after`, or NONE. It is kept as what it lies past `after` + 1: a key up to there wraps to a number too large to count,
+// The least key after `after`, or none. It is kept as what it lies past `after` + 1: a key up to there wraps to a number too large to count,
 // so that one comparison does for two.
 fn next_key(keys: &[u32; 129], m: usize, after: u32) -> u32
-    requires { ⌜ (m ≤ 129) × (after < 4294967295) ⌝ }
+    requires { ⌜ (m ≤ 129) × (after < never) ⌝ }
     ensures { λ r. ⌜ NextKey (now (keys .entry)) m after r ⌝ }
 {
     let from = after + 1;
-    let mut best: u32 = 0xffff_ffff - from;
+    let mut best: u32 = lists::NONE - from;
     let mut i: usize = 0;
     while i < m {
-        best = lesser(std::num::wrapping_sub_u32(keys[i], from), best);
+        best = lists::lesser(std::num::wrapping_sub_u32(keys[i], from), best);
         i += 1;
     }
     from + best
@@ -159,10 +142,10 @@ pub fn stuffing(live: &Live, count: usize, q: Window) -> Found
         let mut after: u32 = 0;
         'tries: loop {
             let key = next_key(&keys, m, after);
-            if key == NONE {
+            if key == lists::NONE {
                 break 'tries;
             }
-            let column = key % 512;
+            let column = columns::left_of(key);
             if meets_any(live, count, n, q.width, column, q.w, t, q.e) {
                 after = key;
             } else {

@@ -53,7 +53,7 @@ pub fn survey(on: Device, clock: u32, tasks: [Task; 64], live: &mut Live) -> Fin
             k.id,
             i as u32,
         );
-        count += slots::one_if(lives);
+        count += lists::one_if(lives) as usize;
         used = used_with(used, i as u32, lives);
         i += 1;
     }

@@ -16,10 +16,10 @@ use Rattle.ways.specs.Ways.{Pair, pair, Ways, isOpen, pairsIn, openingsI
 
 -- what is asked of places and time, and holds of columns, of a grid and of cells: `low` is a place before every place
 pub record Lawful {P A : Type 0} (w : Ways P A) (low : P) : Type 0 where
-  -- the first start from which on a thing is in no one's way
-  pub leaves : A → ℕ
-  -- TIME ALONE: a thing that is in the way stays in the way until it leaves
-  pub stays : (t v : ℕ) (p : P) (a : A) → T (w .inWay t p a) → t ≤ v → v < leaves a → T (w .inWay v p a)
+  -- of a thing in the way from a start at a place: until which start it is
+  pub leaves : ℕ → P → A → ℕ
+  -- TIME ALONE: a thing that is in the way stays in the way at that place until it leaves
+  pub stays : (t v : ℕ) (p : P) (a : A) → T (w .inWay t p a) → t ≤ v → v < leaves t p a → T (w .inWay v p a)
   -- the places stand in their order
   pub sorted : Sorted (λ p q. T (w .before p q)) (w .places)
   pub asym : (p q : P) → T (w .before p q) → T (w .before q p) → ⊥
@@ -62,12 +62,16 @@ module _ {P A : Type 0} (w : Ways P A) where
     where
       pick : T (ltb (p .start) (q .start)) ⊎ T (eqb (p .start) (q .start) && w .before (p .place) (q .place)) → After p q
       pick (inl t) = sooner (ltb→lt (p .start) (q .start) t)
-      pick (inr t) = beside (eqb→eq (p .start) (q .start) (and-l (eqb (p .start) (q .start)) (w .before (p .place) (q .place)) t)) (and-r (eqb (p .start) (q .start)) (w .before (p .place) (q .place)) t)
+      pick (inr t) =
+          beside (eqb→eq (p .start) (q .start) (and-l (eqb (p .start) (q .start)) (w .before (p .place) (q .place)) t))
+          (and-r (eqb (p .start) (q .start)) (w .before (p .place) (q .place)) t)
 
   after-in : (p q : Pair P) → After p q → T (after w p q)
   unfolding after
   after-in p q (sooner h) = or-l (ltb (p .start) (q .start)) (eqb (p .start) (q .start) && w .before (p .place) (q .place)) (lt→ltb (p .start) (q .start) h)
-  after-in p q (beside x h) = or-r (ltb (p .start) (q .start)) (eqb (p .start) (q .start) && w .before (p .place) (q .place)) (and-i (eqb (p .start) (q .start)) (w .before (p .place) (q .place)) (rw x (eqb-refl (q .start))) h)
+  after-in p q (beside x h) =
+      or-r (ltb (p .start) (q .start)) (eqb (p .start) (q .start) && w .before (p .place) (q .place))
+      (and-i (eqb (p .start) (q .start)) (w .before (p .place) (q .place)) (rw x (eqb-refl (q .start))) h)
 
 module _ {P A : Type 0} (w : Ways P A) (low : P) (o : Lawful w low) where
   asymmetric : (p q : Pair P) → After w p q → After w q p → ⊥
@@ -200,17 +204,24 @@ module _ {P A : Type 0} (w : Ways P A) (low : P) (o : Lawful w low) where
         to r k (beside e l) = absurd (f (r .place) (rw (same-start r e) k) l)
 
   -- TIME ALONE: what is in the way at t leaves from n on, so what is open from a start before n was open from t
-  slide : (t n : ℕ) → w .from ≤ t → ((a : A) → a ∈ w .things → (p : P) → T (w .inWay t p a) → n ≤ o .leaves a) → (r : Pair P) → Open w r → t ≤ r .start → r .start < n → Open w (pair t (r .place))
+  slide : (t n : ℕ) → w .from ≤ t → ((a : A) → a ∈ w .things → (p : P) → T (w .inWay t p a) → n ≤ o .leaves t p a)
+      → (r : Pair P) → Open w r → t ≤ r .start → r .start < n → Open w (pair t (r .place))
   unfolding isOpen
-  slide t n l f r k h m =
-      record { from-now = l; in-time = omega (arith, k .in-time); on-board = k .on-board; clear = pass-none (w .inWay t (r .place)) (w .things) (λ a i. not-T (w .inWay t (r .place) a) (λ b. clash a i b (f a i (r .place) b))) }
+  slide t n l f r k h m = record {
+    from-now = l;
+    in-time = omega (arith, k .in-time);
+    on-board = k .on-board;
+    clear = pass-none (w .inWay t (r .place)) (w .things) (λ a i. not-T (w .inWay t (r .place) a) (λ b. clash a i b (f a i (r .place) b)));
+  }
     where
-      clash : (a : A) → a ∈ w .things → T (w .inWay t (r .place) a) → n ≤ o .leaves a → ⊥
-      clash a i b z = T-not (w .inWay (r .start) (r .place) a) (none-pass (w .inWay (r .start) (r .place)) (w .things) (k .clear) i) (o .stays t (r .start) (r .place) a b h (omega arith))
+      clash : (a : A) → a ∈ w .things → T (w .inWay t (r .place) a) → n ≤ o .leaves t (r .place) a → ⊥
+      clash a i b z =
+          T-not (w .inWay (r .start) (r .place) a) (none-pass (w .inWay (r .start) (r .place)) (w .things) (k .clear) i)
+          (o .stays t (r .start) (r .place) a b h (omega arith))
 
   -- nothing is open at t: on to where the next thing leaves
-  pub next-end : (t n : ℕ) → w .from ≤ t → t < n → ((a : A) → a ∈ w .things → (p : P) → T (w .inWay t p a) → n ≤ o .leaves a) → ((r : P) → Open w (pair t r) → ⊥)
-      → openingsAfter w (pair t low) ≡ openingsAfter w (pair n low)
+  pub next-end : (t n : ℕ) → w .from ≤ t → t < n → ((a : A) → a ∈ w .things → (p : P) → T (w .inWay t p a) → n ≤ o .leaves t p a)
+      → ((r : P) → Open w (pair t r) → ⊥) → openingsAfter w (pair t low) ≡ openingsAfter w (pair n low)
   next-end t n l u f g = rest-same (pair t low) (pair n low) to (λ r k m. sooner (omega (arith, from-low n r m)))
     where
       to : (r : Pair P) → Open w r → After w (pair t low) r → After w (pair n low) r

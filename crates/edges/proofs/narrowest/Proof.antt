@@ -1,6 +1,6 @@
 -- `edges::narrowest` meets its contract: the runs that begin before `at` are weighed. Assumes nothing.
-use Prim.Native.Nat.{_-_}
-use mathlib.Core.Path.{sym, _∙_}
+use Prim.Native.Nat.{_-_, min}
+use mathlib.Core.Path.{sym, ap, _∙_}
 use native.Mathlib.Omega.{arith}
 use Rattle.edges.proofs.Weighed.{Stands, stands-first, stands-end, stands-edge, stands-over, stands-none, stands-one}
 use borrow.Author.Needs.{needs}
@@ -28,30 +28,25 @@ next-set-requires-2 c κs = search needs
 is-edge-requires : tie.Need-is-edge-requires Inv-loop μ-loop
 is-edge-requires c κs = search needs
 
-sub-lesser : tie.Need-sub-lesser Inv-loop μ-loop
-sub-lesser c = search needs
-
-mul-lesser : tie.Need-mul-lesser Inv-loop μ-loop
-mul-lesser c = search needs
-
-add-lesser : tie.Need-add-lesser Inv-loop μ-loop
-add-lesser c = search needs
+key-requires : tie.Need-key-requires Inv-loop μ-loop
+key-requires c κs = let g = c .before .before .next-set2 .ensures in (omega (arith, g .low), omega (arith, g .high))
 
 lesser-requires : tie.Need-lesser-requires Inv-loop μ-loop
 lesser-requires c κs = search needs
 
 loop-less : tie.Need-loop-less Inv-loop μ-loop
 loop-less c =
-    let g = c .before .before .before .next-set2 .ensures in
-    let f = c .before .before .before .before .before .next-set .ensures in
+    let g = c .before .before .before .before .next-set2 .ensures in
+    let f = c .before .before .before .before .before .before .next-set .ensures in
     omega (arith, f .low, g .low, g .high)
 
 loop-again : tie.Need-loop-again Inv-loop μ-loop
 loop-again c =
-    let e = c .before .before in
+    let e = c .before .before .before in
     let t = e .before .before in
-    stands-edge _ _ (t .before .before .before .loop .inv) (t .before .next-set .ensures) (omega arith) (e .before .next-set2 .ensures)
-    (sym (e .is-edge .ensures) ∙ c .before .if2 .taken) (c .lesser .ensures)
+    let l = t .before .before .before .loop in
+    stands-edge _ _ (l .inv) (t .before .next-set .ensures) (omega arith) (e .before .next-set2 .ensures)
+    (sym (e .is-edge .ensures) ∙ c .before .before .if2 .taken) (c .lesser .ensures ∙ ap (λ k. min k (l .best)) (c .before .key .ensures))
 
 loop-less-2 : tie.Need-loop-less-2 Inv-loop μ-loop
 loop-less-2 c =
@@ -71,8 +66,11 @@ loop-less-3 c = omega arith
 loop-again-3 : tie.Need-loop-again-3 Inv-loop μ-loop
 loop-again-3 c = stands-end _ _ (c .before .before .before .loop .inv) (c .before .next-set .ensures) (omega arith)
 
+left-of-requires : tie.Need-left-of-requires Inv-loop μ-loop
+left-of-requires c κs = search needs
+
 returns : tie.Need-returns Inv-loop μ-loop
-returns c = λ W w d. stands-one _ _ d (c .before .before .loop .inv) (omega arith) (omega arith)
+returns c = λ W w d. stands-one _ _ d (c .before .before .before .loop .inv) (omega arith) (omega arith) (c .left-of .ensures)
 
 returns-2 : tie.Need-returns-2 Inv-loop μ-loop
 returns-2 c = λ W w d. stands-none _ _ d (c .before .before .loop .inv) (omega arith) (omega arith)
@@ -88,9 +86,7 @@ narrowest-spec =
     add-next-set
     next-set-requires-2
     is-edge-requires
-    sub-lesser
-    mul-lesser
-    add-lesser
+    key-requires
     lesser-requires
     loop-less
     loop-again
@@ -98,5 +94,6 @@ narrowest-spec =
     loop-again-2
     loop-less-3
     loop-again-3
+    left-of-requires
     returns
     returns-2)

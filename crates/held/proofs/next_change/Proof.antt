@@ -4,7 +4,8 @@ use mathlib.Core.Path.{_≡_}
 use mathlib.Core.List.{List}
 use native.Mathlib.Omega.{arith}
 use native.Mathlib.Decide.{decLt, ℕ-discrete as decEq}
-use Rattle.live.specs.Live.{startAt, finishAt, Falling, After, NextFinish, none}
+use Rattle.lists.specs.Lists.{never}
+use Rattle.live.specs.Live.{startAt, finishAt, Falling, After, NextFinish}
 use Rattle.held.specs.Held.{Unchanged}
 use borrow.Author.Needs.{needs}
 use Rattle.held.proofs.next_change.Statement.{statement}
@@ -25,8 +26,8 @@ one-more live n t e best comes r o u v b h = λ i l k. come i l k (decEq i n)
     come i l k (no z) = omega (arith, o i (omega arith) k)
 
 -- a task that has finished is not asked
-all-tasks : (live : List ℕ) (n t e before next r : ℕ) → Comes live n t e before → t < before → t < none → r ≡ min before next
-    → ((count u : ℕ) → Falling count live → After live count u n → u < none → NextFinish live count u next)
+all-tasks : (live : List ℕ) (n t e before next r : ℕ) → Comes live n t e before → t < before → t < never → r ≡ min before next
+    → ((count u : ℕ) → Falling count live → After live count u n → u < never → NextFinish live count u next)
     → (count : ℕ) → Falling count live → After live count t n → Unchanged live count t e r
 unfolding Comes
 all-tasks live n t e before next r c p b m f count g a =
@@ -38,7 +39,7 @@ all-tasks live n t e before next r c p b m f count g a =
     go i h y k (no z) = absurd (omega (arith, a .ended i (omega arith) h))
 
 abbrev Inv-loop : tie.InvT-loop
-Inv-loop live n t e from stay best₀ i₀ best i = (i ≤ n) × (from + best ≤ 4294967295) × Comes live i t e (from + best)
+Inv-loop live n t e from stay best₀ i₀ best i = (i ≤ n) × (from + best ≤ never) × Comes live i t e (from + best)
 
 abbrev μ-loop : tie.MeasureT-loop
 μ-loop live n t e from stay best₀ i₀ best i = n - i

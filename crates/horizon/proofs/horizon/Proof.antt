@@ -37,6 +37,9 @@ walk-holds c =
 look-requires : tie.Need-look-requires Inv-walk μ-walk
 look-requires c κs = (omega arith, c .before .before .walk .inv .0 .steps)
 
+left-of-requires : tie.Need-left-of-requires Inv-walk μ-walk
+left-of-requires c κs = search needs
+
 walk-less : tie.Need-walk-less Inv-walk μ-walk
 walk-less c =
     let k = c .before .before .before .before in
@@ -56,7 +59,7 @@ returns c =
     let k = c .before .before .before in
     let v = k .before .before .before .walk .inv in
     let s = k .before .before .before .before .before .before .before .before .before .before .pre in
-    release-hit _ _ _ _ (s .0 .wide) (k .look .ensures _ _ (v .0)) (v .1) (c .before .if1 .taken)
+    release-hit _ _ _ _ (s .0 .wide) (k .look .ensures _ _ (v .0)) (v .1) (c .before .if1 .taken) (c .left-of .ensures)
 
 returns-2 : tie.Need-returns-2 Inv-walk μ-walk
 returns-2 c =
@@ -76,6 +79,7 @@ horizon-spec =
     sub-last
     walk-holds
     look-requires
+    left-of-requires
     walk-less
     walk-again
     returns

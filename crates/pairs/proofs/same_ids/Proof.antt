@@ -30,17 +30,17 @@ add-j c = search needs
 loop-holds : tie.Need-loop-holds Inv-loop μ-loop
 loop-holds c = count-none _ _ _ (omega arith)
 
-add-hit : tie.Need-add-hit Inv-loop μ-loop
-add-hit c = search needs
+add-one-if : tie.Need-add-one-if Inv-loop μ-loop
+add-one-if c = search needs
 
-mul-hit : tie.Need-mul-hit Inv-loop μ-loop
-mul-hit c = search needs
+mul-one-if : tie.Need-mul-one-if Inv-loop μ-loop
+mul-one-if c = search needs
 
-element-copy-out-hit : tie.Need-element-copy-out-hit Inv-loop μ-loop
-element-copy-out-hit c = search needs
+element-copy-out-one-if : tie.Need-element-copy-out-one-if Inv-loop μ-loop
+element-copy-out-one-if c = search needs
 
-hit-requires : tie.Need-hit-requires Inv-loop μ-loop
-hit-requires c κs = search needs
+one-if-requires : tie.Need-one-if-requires Inv-loop μ-loop
+one-if-requires c κs = search needs
 
 add-hits : tie.Need-add-hits Inv-loop μ-loop
 add-hits c = search needs
@@ -54,7 +54,7 @@ loop-less c = search needs
 loop-again : tie.Need-loop-again Inv-loop μ-loop
 loop-again c =
     let l = c .before .before .before in
-    count-one (l .loop .inv) (omega arith) (c .hit .ensures .0)
+    count-one (l .loop .inv) (omega arith) (c .one-if .ensures .0)
 
 returns : tie.Need-returns Inv-loop μ-loop
 returns c =
@@ -73,10 +73,10 @@ same-ids-spec =
     element-copy-out-id
     add-j
     loop-holds
-    add-hit
-    mul-hit
-    element-copy-out-hit
-    hit-requires
+    add-one-if
+    mul-one-if
+    element-copy-out-one-if
+    one-if-requires
     add-hits
     add-j-2
     loop-less

@@ -19,14 +19,14 @@ loop-holds c = taken-none (omega arith)
 cast-at : tie.Need-cast-at Inv-loop μ-loop
 cast-at c = search needs
 
-mul-hit : tie.Need-mul-hit Inv-loop μ-loop
-mul-hit c = search needs
+mul-one-if : tie.Need-mul-one-if Inv-loop μ-loop
+mul-one-if c = search needs
 
-element-copy-out-hit : tie.Need-element-copy-out-hit Inv-loop μ-loop
-element-copy-out-hit c = search needs
+element-copy-out-one-if : tie.Need-element-copy-out-one-if Inv-loop μ-loop
+element-copy-out-one-if c = search needs
 
-hit-requires : tie.Need-hit-requires Inv-loop μ-loop
-hit-requires c κs = search needs
+one-if-requires : tie.Need-one-if-requires Inv-loop μ-loop
+one-if-requires c κs = search needs
 
 add-hits : tie.Need-add-hits Inv-loop μ-loop
 add-hits c = search needs
@@ -46,7 +46,7 @@ loop-less c = search needs
 loop-again : tie.Need-loop-again Inv-loop μ-loop
 loop-again c =
     let l = c .before .before .before in
-    taken-one (l .loop .inv) (omega arith) (omega arith) (c .hit .ensures .0)
+    taken-one (l .loop .inv) (omega arith) (omega arith) (c .one-if .ensures .0)
 
 returns : tie.Need-returns Inv-loop μ-loop
 returns c =
@@ -62,9 +62,9 @@ take-spec =
     μ-loop
     loop-holds
     cast-at
-    mul-hit
-    element-copy-out-hit
-    hit-requires
+    mul-one-if
+    element-copy-out-one-if
+    one-if-requires
     add-hits
     mul-row
     element-write-row

@@ -40,42 +40,40 @@ add-first-held c = search needs
 first-held-requires : tie.Need-first-held-requires Inv-loop μ-loop
 first-held-requires c κs = (omega arith, omega arith)
 
-sub-keys : tie.Need-sub-keys Inv-loop μ-loop
-sub-keys c = omega (arith, c .first-held .ensures .low)
+key-requires : tie.Need-key-requires Inv-loop μ-loop
+key-requires c κs = (omega (arith, c .first-held .ensures .low), omega (arith, c .first-held .ensures .high))
 
 mul-keys : tie.Need-mul-keys Inv-loop μ-loop
-mul-keys c = omega (arith, c .first-held .ensures .high)
-
-add-keys : tie.Need-add-keys Inv-loop μ-loop
-add-keys c = omega (arith, c .first-held .ensures .high)
-
-mul-keys-2 : tie.Need-mul-keys-2 Inv-loop μ-loop
-mul-keys-2 c = search needs
+mul-keys c = search needs
 
 element-write-keys : tie.Need-element-write-keys Inv-loop μ-loop
 element-write-keys c =
-    let h = c .before .before in
+    let h = c .before .before .before in
     let l = h .before .before .before in
-    pass-room (l .loop .inv) (l .before .pre .3) (omega arith) (omega arith) (sym (h .wide .ensures) ∙ c .before .if1 .taken)
+    pass-room (l .loop .inv) (l .before .pre .3) (omega arith) (omega arith) (sym (h .wide .ensures) ∙ c .before .before .if1 .taken)
 
 sub-one-if : tie.Need-sub-one-if Inv-loop μ-loop
-sub-one-if c = omega (arith, c .first-held .ensures .low)
+sub-one-if c = omega (arith, c .before .first-held .ensures .low)
 
 one-if-requires : tie.Need-one-if-requires Inv-loop μ-loop
 one-if-requires c κs = search needs
+
+cast-m : tie.Need-cast-m Inv-loop μ-loop
+cast-m c = search needs
 
 add-m : tie.Need-add-m Inv-loop μ-loop
 add-m c = search needs
 
 loop-less : tie.Need-loop-less Inv-loop μ-loop
-loop-less c = omega (arith, c .before .first-held .ensures .low)
+loop-less c = omega (arith, c .before .before .first-held .ensures .low)
 
 loop-again : tie.Need-loop-again Inv-loop μ-loop
 loop-again c =
-    let h = c .before .before .before in
+    let h = c .before .before .before .before in
     let l = h .before .before .before in
-    let z = sym (h .wide .ensures) ∙ c .before .before .if1 .taken in
-    pass-free (l .loop .inv) (l .before .pre .3) (omega arith) (omega arith) z (c .before .first-held .ensures) (c .one-if .ensures .0) (c .one-if .ensures .1)
+    let z = sym (h .wide .ensures) ∙ c .before .before .before .if1 .taken in
+    pass-free (l .loop .inv) (l .before .pre .3) (omega arith) (omega arith) z (c .before .before .first-held .ensures) (c .before .key .ensures)
+    (c .one-if .ensures .0) (c .one-if .ensures .1)
 
 loop-less-2 : tie.Need-loop-less-2 Inv-loop μ-loop
 loop-less-2 c =
@@ -108,13 +106,12 @@ list-fits-spec =
     wide-requires
     add-first-held
     first-held-requires
-    sub-keys
+    key-requires
     mul-keys
-    add-keys
-    mul-keys-2
     element-write-keys
     sub-one-if
     one-if-requires
+    cast-m
     add-m
     loop-less
     loop-again

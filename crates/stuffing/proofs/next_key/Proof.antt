@@ -1,4 +1,4 @@
--- `stuffing::next_key` meets its contract: of the keys passed none lies between, and it is one of them or none. Assumes nothing.
+-- `stuffing::next_key` meets its contract: of the keys passed none lies between, and it is one of them or never. Assumes nothing.
 use Prim.Native.Nat.{ℕ, _+_, _-_, _%_, _≤_, _<_, min}
 use mathlib.Core.Path.{_≡_}
 use mathlib.Core.Logic.{_⊎_, inl, inr}
@@ -6,13 +6,14 @@ use mathlib.Core.List.{List}
 use native.Mathlib.Omega.{arith}
 use native.Mathlib.Decide.{decLt, ℕ-discrete as decEq}
 use lib.ListN.{getD}
-use Rattle.stuffing.specs.Fit.{none, NextKey}
+use Rattle.lists.specs.Lists.{never}
+use Rattle.stuffing.specs.Fit.{NextKey}
 use borrow.Author.Needs.{needs}
 use Rattle.stuffing.proofs.next_key.Statement.{statement}
 use Rattle.stuffing.proofs.next_key.Tie as tie
 
 -- `over` is what key m lies past after + 1, where it lies past after
-one-more : (keys : List ℕ) (m after best over r : ℕ) → NextKey keys m after (after + 1 + best) → after + 1 + best ≤ none → over < 4294967296
+one-more : (keys : List ℕ) (m after best over r : ℕ) → NextKey keys m after (after + 1 + best) → after + 1 + best ≤ never → over < 4294967296
     → (over + (after + 1)) % 4294967296 ≡ getD keys m 0 → r ≡ min over best → NextKey keys (m + 1) after (after + 1 + r)
 one-more keys m after best over r o h p q e = record { past = omega arith; least = λ i l k. at i l k (decEq i m); one = is (decLt over best) (o .one) }
   where
@@ -20,14 +21,14 @@ one-more keys m after best over r o h p q e = record { past = omega arith; least
     at i l k (yes z) = let y : after < getD keys m 0 = rw z at k in rw z (omega arith)
     at i l k (no z) = omega (arith, o .least i (omega arith) k)
 
-    is : Dec (over < best) → (after + 1 + best ≡ none) ⊎ ((i : ℕ) × (i < m) × (getD keys i 0 ≡ after + 1 + best))
-        → (after + 1 + r ≡ none) ⊎ ((i : ℕ) × (i < m + 1) × (getD keys i 0 ≡ after + 1 + r))
+    is : Dec (over < best) → (after + 1 + best ≡ never) ⊎ ((i : ℕ) × (i < m) × (getD keys i 0 ≡ after + 1 + best))
+        → (after + 1 + r ≡ never) ⊎ ((i : ℕ) × (i < m + 1) × (getD keys i 0 ≡ after + 1 + r))
     is (yes l) b = inr (m, omega arith, omega arith)
     is (no l) (inl b) = inl (omega arith)
     is (no l) (inr b) = inr (b .0, omega (arith, b .1), omega (arith, b .2))
 
 abbrev Inv-loop : tie.InvT-loop
-Inv-loop keys m after from best₀ i₀ best i = (i ≤ m) × (from + best ≤ 4294967295) × NextKey keys i after (from + best)
+Inv-loop keys m after from best₀ i₀ best i = (i ≤ m) × (from + best ≤ never) × NextKey keys i after (from + best)
 
 abbrev μ-loop : tie.MeasureT-loop
 μ-loop keys m after from best₀ i₀ best i = m - i

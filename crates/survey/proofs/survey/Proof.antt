@@ -62,6 +62,9 @@ put-requires c κs = search needs
 one-if-requires : tie.Need-one-if-requires Inv-loop μ-loop
 one-if-requires c κs = search needs
 
+cast-count : tie.Need-cast-count Inv-loop μ-loop
+cast-count c = search needs
+
 add-count : tie.Need-add-count Inv-loop μ-loop
 add-count c =
     let l = c .before .before .before .before .before .before .before .before .before .before .before .before .loop in
@@ -112,6 +115,7 @@ survey-spec =
     cast-put-7
     put-requires
     one-if-requires
+    cast-count
     add-count
     cast-used-with
     used-with-requires
