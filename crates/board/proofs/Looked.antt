@@ -76,7 +76,7 @@ busy-running b s = busy-held (b .device .columns) (liveOf b) (b .now) ∙ ap (λ
         let p = some-pass (holds (b .now) c) (liveOf b) t in
         let m = keep-in live (b .tasks) (p .among) in
         let h = holds-out (b .now) c (p .it) (p .passes) in
-        pass-some (covers c) (runningOf b) (in-keep runs (m .0) (is-running (p .it) (h .started) (s .tasks (p .it) (m .0) (m .1) .phase))) (covers-in c (p .it) (h .from) (h .to))
+        pass-some (covers c) (runningOf b) (in-keep runs (m .0) (is-running (p .it) (h .started) (s .tasks (p .it) (m .0) (m .1) .phase))) (covers-in c (p .it) (h .left) (h .right))
       where
         is-running : (k : Task) → k .start ≤ b .now → InPhase (b .now) k → T (runningPhase (k .phase))
         is-running k l (running e h) = rw e tt
@@ -90,7 +90,7 @@ busy-running b s = busy-held (b .device .columns) (liveOf b) (b .now) ∙ ap (λ
         let o = s .tasks (p .it) (m .0) l in
         let v = covers-out c (p .it) (p .passes) in
         pass-some (holds (b .now) c) (liveOf b) (in-keep live (m .0) l)
-        (holds-in (b .now) c (p .it) (record { started = has-started (p .it) (m .1) (o .phase); unfinished = o .unfinished; from = v .0; to = v .1 }))
+        (holds-in (b .now) c (p .it) (record { started = has-started (p .it) (m .1) (o .phase); unfinished = o .unfinished; left = v .0; right = v .1 }))
       where
         has-started : (k : Task) → T (runningPhase (k .phase)) → InPhase (b .now) k → k .start ≤ b .now
         has-started k t (running e h) = h

@@ -74,7 +74,7 @@ module _ (live : List ℕ) (t : ℕ) where
             let i = task-in live n k in
             let z : T (holds t c (taskAt live (i .0))) = rw (i .2) at b in
             let y = holds-out t c (taskAt live (i .0)) z in
-            omega (arith, y .to, o .columns (i .0) (i .1), o .past (i .0) (i .1), range-in (1 + W) (256 - W) m .low)
+            omega (arith, y .right, o .columns (i .0) (i .1), o .past (i .0) (i .1), range-in (1 + W) (256 - W) m .low)
 
     pub ones-busy : length (keep (column words) (range 1 256)) ≡ busyColumns W (tasksOf n live) t
     unfolding held?

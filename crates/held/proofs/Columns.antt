@@ -69,8 +69,8 @@ module _ (W count n : ℕ) (live m : List ℕ) (t e : ℕ) (h : 1 ≤ e) (k : Le
   in-way c i v =
       let x : startAt live i + (finishAt live i - startAt live i) ≡ finishAt live i = omega (arith, o .ticks i v) in
       let y : leftAt live i + (pastAt live i - leftAt live i) ≡ pastAt live i = omega (arith, o .columns i v) in
-      let z : 1 ≤ finishAt live i - startAt live i = omega (arith, o .ticks i v) in
-      ap₂ _&&_ (overlap-either t e (startAt live i) (finishAt live i - startAt live i) h z ∙ ap (λ b. ltb t b && ltb (startAt live i) (t + e)) x)
+      let z : startAt live i < startAt live i + (finishAt live i - startAt live i) = omega (arith, o .ticks i v) in
+      ap₂ _&&_ (overlap-either t (t + e) (startAt live i) (startAt live i + (finishAt live i - startAt live i)) (omega arith) z ∙ ap (λ b. ltb t b && ltb (startAt live i) (t + e)) x)
       (ap (λ b. leb (leftAt live i) c && ltb c b) y)
 
   -- of the first ones: if its word has the digit

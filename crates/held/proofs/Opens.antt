@@ -13,7 +13,7 @@ use Rattle.lists.proofs.Append.{some-same, some-map}
 use Rattle.lists.proofs.Members.{some-pass, pass-some, map-in, range-in}
 use Rattle.ways.specs.Ways.{pair}
 use Rattle.tasks.specs.declared.Task.{Task}
-use Rattle.tasks.specs.Tasks.{finish, overlap, covers}
+use Rattle.tasks.specs.Tasks.{from, finish, overlap, covers}
 use Rattle.tasks.proofs.Laws.{overlap-common, common-overlap, covers-in, covers-out}
 use Rattle.live.specs.Live.{startAt, finishAt, taskAt, tasksOf, OnDevice, After, NextFinish}
 use Rattle.planners.specs.Lent.{asked}
@@ -39,7 +39,7 @@ module _ (W t e : ℕ) (ts : List Task) (words : List ℕ) (h : Held W t e ts wo
     on-device = within (decLt W (c + w - 1));
     apart = λ u m x y.
         true≢false (sym (held-set (x .it) (omega (arith, x .low₁)) (omega (arith, x .high₁, k .fits)) u m
-        (and-i (overlap t e (u .start) (u .e)) (covers (x .it) u) (common-overlap t e (u .start) (u .e) y) (covers-in (x .it) u (x .low₂) (x .high₂))))
+        (and-i (overlap t (t + e) (from u) (finish u)) (covers (x .it) u) (common-overlap t (t + e) (from u) (finish u) y) (covers-in (x .it) u (x .low₂) (x .high₂))))
         ∙ k .clear (x .it) (x .low₁) (x .high₁));
   }
     where
@@ -62,9 +62,9 @@ module _ (W t e : ℕ) (ts : List Task) (words : List ℕ) (h : Held W t e ts wo
           pick (inl i) =
               let y = some-pass (inStay t e x) ts i in
               let u : Task = y .it in
-              let k = covers-out x u (and-r (overlap t e (u .start) (u .e)) (covers x u) (y .passes)) in
+              let k = covers-out x u (and-r (overlap t (t + e) (from u) (finish u)) (covers x u) (y .passes)) in
               o .apart u (y .among) (record { it = x; low₁ = p; high₁ = q; low₂ = k .0; high₂ = k .1 })
-              (overlap-common t e (u .start) (u .e) (and-l (overlap t e (u .start) (u .e)) (covers x u) (y .passes)))
+              (overlap-common t (t + e) (from u) (finish u) (and-l (overlap t (t + e) (from u) (finish u)) (covers x u) (y .passes)))
           pick (inr i) = omega (arith, ltb→lt W x i, o .on-device)
 
 -- no task finishes between t and the next finish
@@ -94,9 +94,9 @@ held-lasts W n live o t e x k b words h v p q c y z =
         ap (λ u. u && covers c (taskAt live i)) (in-time (startAt live i) (finishAt live i) (o .ticks i j) (b .finishes i j) (b .starts i j))
       where
         -- a task is in the stay from t on exactly if it is in the stay from v on
-        in-time : (a g : ℕ) → a < g → (t < g → x ≤ g) → (t < g → t + e ≤ a → x + e ≤ a + 1) → overlap t e a (g - a) ≡ overlap v e a (g - a)
+        in-time : (a g : ℕ) → a < g → (t < g → x ≤ g) → (t < g → t + e ≤ a → x + e ≤ a + 1) → overlap t (t + e) a (a + (g - a)) ≡ overlap v (v + e) a (a + (g - a))
         in-time a g w leaves comes =
-            same-bool (overlap t e a (g - a)) (overlap v e a (g - a))
+            same-bool (overlap t (t + e) a (a + (g - a))) (overlap v (v + e) a (a + (g - a)))
             (λ u.
             let m = ltb→lt (max t a) (min (t + e) (a + (g - a))) u in
             let z = leaves (omega arith) in

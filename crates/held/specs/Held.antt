@@ -6,13 +6,13 @@ use mathlib.Core.List.{List}
 use lib.Dec.{ltb}
 use Rattle.lists.specs.Lists.{some?, range}
 use Rattle.tasks.specs.declared.Task.{Task}
-use Rattle.tasks.specs.Tasks.{overlap, covers}
+use Rattle.tasks.specs.Tasks.{from, finish, overlap, covers}
 use Rattle.live.specs.Live.{at, startAt, finishAt}
 use Rattle.words.specs.Words.{bit, column}
 
 -- the task holds column c at one of the e ticks from t on
 unfoldable pub inStay : ℕ → ℕ → ℕ → Task → Bool
-inStay t e c u = overlap t e (u .start) (u .e) && covers c u
+inStay t e c u = overlap t (t + e) (from u) (finish u) && covers c u
 
 -- task i starts before `end`, and has digit j of word k
 abbrev pub inWord : List ℕ → List ℕ → ℕ → ℕ → ℕ → ℕ → Bool

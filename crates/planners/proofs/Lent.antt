@@ -9,7 +9,7 @@ use Rattle.lists.specs.Lists.{_∈_, some?, range}
 use Rattle.lists.proofs.Members.{map-in, in-map, range-in, in-range}
 use Rattle.lists.proofs.Append.{range-more, range-first, some-map}
 use Rattle.tasks.specs.declared.Task.{Task}
-use Rattle.tasks.specs.Tasks.{finish, holds, covers, overlap}
+use Rattle.tasks.specs.Tasks.{from, finish, past, holds, covers, overlap}
 use Rattle.tasks.proofs.Laws.{overlap-either}
 use Rattle.live.specs.Live.{startAt, finishAt, leftAt, pastAt, taskAt, tasksOf, OnDevice}
 
@@ -58,11 +58,11 @@ module _ {W n : ℕ} {live : List ℕ} (o : OnDevice W n live) (i : ℕ) (h : i 
 
   -- whether task i meets a stay, by the arrays
   pub meets-at : (c w t e : ℕ) → 1 ≤ w → 1 ≤ e
-      → (overlap c w (taskAt live i .column) (taskAt live i .w) && overlap t e (taskAt live i .start) (taskAt live i .e))
+      → (overlap c (c + w) (taskAt live i .column) (past (taskAt live i)) && overlap t (t + e) (from (taskAt live i)) (finish (taskAt live i)))
       ≡ ((ltb c (pastAt live i) && ltb (leftAt live i) (c + w)) && (ltb t (finishAt live i) && ltb (startAt live i) (t + e)))
   meets-at c w t e p q =
       let x : startAt live i + (finishAt live i - startAt live i) ≡ finishAt live i = omega (arith, o .ticks i h) in
       let y : leftAt live i + (pastAt live i - leftAt live i) ≡ pastAt live i = omega (arith, o .columns i h) in
-      let across = overlap-either c w (leftAt live i) (pastAt live i - leftAt live i) p (omega (arith, o .columns i h)) in
-      let along = overlap-either t e (startAt live i) (finishAt live i - startAt live i) q (omega (arith, o .ticks i h)) in
+      let across = overlap-either c (c + w) (leftAt live i) (leftAt live i + (pastAt live i - leftAt live i)) (omega arith) (omega (arith, o .columns i h)) in
+      let along = overlap-either t (t + e) (startAt live i) (startAt live i + (finishAt live i - startAt live i)) (omega arith) (omega (arith, o .ticks i h)) in
       rw (across, along, x, y)

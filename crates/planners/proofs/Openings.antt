@@ -15,7 +15,7 @@ use Rattle.ways.specs.Ways.{pair, isOpen, openingsAfter, askedOn}
 use Rattle.ways.proofs.Laws.{Lawful, Open, After, sooner, beside, openings-in, in-openings, openings-sorted, openings-unique, rest-in, rest-out, rest-sorted, after-part, asked-all, all}
 use Rattle.tasks.specs.declared.Task.{Task}
 use Rattle.tasks.specs.declared.Submission.{Submission}
-use Rattle.tasks.specs.Tasks.{finish, overlap, meets, stamped, booked}
+use Rattle.tasks.specs.Tasks.{from, finish, past, overlap, meets, stamped, booked}
 use Rattle.tasks.proofs.Laws.{Common, Share, meets-share, share-meets}
 use Rattle.planners.specs.Openings.{Place, ways, openings, full}
 
@@ -28,7 +28,7 @@ pub record Opening (W now : ℕ) (ts : List Task) (a : Submission) (p : Place) :
   pub from-one : 1 ≤ p .place
   pub on-device : p .place + a .w ≤ suc W
   -- no column shared with a live task at any tick from s up to s + e
-  pub apart : (u : Task) → u ∈ ts → Common (p .place) (a .w) (u .column) (u .w) → Common (p .start) (a .e) (u .start) (u .e) → ⊥
+  pub apart : (u : Task) → u ∈ ts → Common (p .place) (p .place + a .w) (u .column) (past u) → Common (p .start) (p .start + a .e) (from u) (finish u) → ⊥
 
 -- by start and then column
 pub data Before (p q : Place) : Type 0 where
@@ -36,10 +36,10 @@ pub data Before (p q : Place) : Type 0 where
   lower : p .start ≡ q .start → p .place < q .place → Before p q
 
 -- TIME ALONE: a stay that begins later still meets what has not finished
-pub later-meets : (t v m b n : ℕ) → T (overlap t m b n) → t ≤ v → v < b + n → T (overlap v m b n)
-later-meets t v m b n x p q =
-    let k = ltb→lt (max t b) (min (t + m) (b + n)) x in
-    lt→ltb (max v b) (min (v + m) (b + n)) (omega arith)
+pub later-meets : (t v m b g : ℕ) → T (overlap t (t + m) b g) → t ≤ v → v < g → T (overlap v (v + m) b g)
+later-meets t v m b g x p q =
+    let k = ltb→lt (max t b) (min (t + m) g) x in
+    lt→ltb (max v b) (min (v + m) g) (omega arith)
 
 module _ (W now : ℕ) (ts : List Task) (a : Submission) where
   -- columns are places with an order, column 0 before all of them, and a task leaves with its finish
@@ -48,9 +48,9 @@ module _ (W now : ℕ) (ts : List Task) (a : Submission) where
   lawful = record {
     leaves = λ s c u. finish u;
     stays = λ s v c u m l h.
-        let x = overlap c (a .w) (u .column) (u .w) in
-        let y = overlap s (a .e) (u .start) (u .e) in
-        and-i x (overlap v (a .e) (u .start) (u .e)) (and-l x y m) (later-meets s v (a .e) (u .start) (u .e) (and-r x y m) l h);
+        let x = overlap c (c + a .w) (u .column) (past u) in
+        let y = overlap s (s + a .e) (from u) (finish u) in
+        and-i x (overlap v (v + a .e) (from u) (finish u)) (and-l x y m) (later-meets s v (a .e) (from u) (finish u) (and-r x y m) l h);
     sorted = sorted-by _<_ (λ p q. T (ltb p q)) (λ x y h. lt→ltb x y h) (sorted-range 1 (suc W - a .w));
     asym = λ p q h k. omega (arith, ltb→lt p q h, ltb→lt q p k);
     trans = λ p q r h k. lt→ltb p r (omega (arith, ltb→lt p q h, ltb→lt q r k));

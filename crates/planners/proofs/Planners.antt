@@ -155,8 +155,8 @@ module _ (W now : ℕ) (ts : List Task) (a : Submission) where
           (holds-in i (s .column .it) u (record {
             started = omega arith;
             unfinished = omega (arith, s .tick .low₁, s .tick .high₂, g .at);
-            from = s .column .low₂;
-            to = s .column .high₂;
+            left = s .column .low₂;
+            right = s .column .high₂;
           })))
 
   pub waiting-is-all : (i : ℕ) {p : Place} → p ∈ map (leftEdge i) (bestFit (a .w) (runs (free ts i) (columns W)))

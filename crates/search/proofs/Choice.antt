@@ -14,7 +14,7 @@ use Rattle.lists.proofs.Append.{some-same, keep-map, keep-agree, head-map}
 use Rattle.lists.proofs.Members.{keep-none, in-keep, in-map, some-pass, pass-some}
 use Rattle.ways.specs.Ways.{pair}
 use Rattle.tasks.specs.declared.Task.{Task}
-use Rattle.tasks.specs.Tasks.{finish, overlap, covers, holds}
+use Rattle.tasks.specs.Tasks.{from, finish, overlap, covers, holds}
 use Rattle.columns.specs.Columns.{columns, Run, runs, bestFit}
 use Rattle.columns.proofs.Runs.{runs-same}
 use Rattle.planners.specs.Planners.{free, leftEdge, clearOfWaiting, candidates}
@@ -31,24 +31,24 @@ use Rattle.search.proofs.Fit.{Fit}
 one-tick : (t c : ℕ) (u : Task) → inStay t 1 c u ≡ holds t c u
 unfolding inStay holds
 one-tick t c u =
-    let p = leb (u .start) t in
+    let p = leb (from u) t in
     let q = ltb t (finish u) in
-    let o = overlap t 1 (u .start) (u .e) in
+    let o = overlap t (t + 1) (from u) (finish u) in
     ap (λ b. b && covers c u) (same-bool o (p && q)
     (λ b.
-    let m = ltb→lt (max t (u .start)) (min (t + 1) (u .start + u .e)) b in
-    and-i p q (le→leb (u .start) t (omega arith)) (lt→ltb t (finish u) (omega arith)))
+    let m = ltb→lt (max t (from u)) (min (t + 1) (finish u)) b in
+    and-i p q (le→leb (from u) t (omega arith)) (lt→ltb t (finish u) (omega arith)))
     (λ b.
-    let l = leb→le (u .start) t (and-l p q b) in
+    let l = leb→le (from u) t (and-l p q b) in
     let m = ltb→lt t (finish u) (and-r p q b) in
-    lt→ltb (max t (u .start)) (min (t + 1) (u .start + u .e)) (omega arith)))
+    lt→ltb (max t (from u)) (min (t + 1) (finish u)) (omega arith)))
 
 -- a longer stay meets no less
 longer : (t e c : ℕ) → 1 ≤ e → (u : Task) → T (inStay t 1 c u) → T (inStay t e c u)
 unfolding inStay
 longer t e c h u b =
-    let m = ltb→lt (max t (u .start)) (min (t + 1) (u .start + u .e)) (and-l (overlap t 1 (u .start) (u .e)) (covers c u) b) in
-    and-i (overlap t e (u .start) (u .e)) (covers c u) (lt→ltb (max t (u .start)) (min (t + e) (u .start + u .e)) (omega arith)) (and-r (overlap t 1 (u .start) (u .e)) (covers c u) b)
+    let m = ltb→lt (max t (from u)) (min (t + 1) (finish u)) (and-l (overlap t (t + 1) (from u) (finish u)) (covers c u) b) in
+    and-i (overlap t (t + e) (from u) (finish u)) (covers c u) (lt→ltb (max t (from u)) (min (t + e) (finish u)) (omega arith)) (and-r (overlap t (t + 1) (from u) (finish u)) (covers c u) b)
 
 -- the columns held at one tick: on the device those that are not free
 one-free : (W t : ℕ) (ts : List Task) (words : List ℕ) → Held W t 1 ts words → W ≤ 256 → (c : ℕ) → 1 ≤ c → c ≤ W → not (column words c) ≡ free ts t c

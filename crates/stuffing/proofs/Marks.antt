@@ -165,7 +165,7 @@ module _ {W count n t : ℕ} {live row : List ℕ} (d : OnDevice W count live) (
               let e = d .columns i h in
               let g = d .columns (k .0) (omega (arith, k .1, a .few)) in
               let z : pastAt live i ≡ pastAt live (k .0) = ap (pastAt live) (clash i (k .0) l (k .1) (o .started) (k .2) (omega (arith, k .3)) (omega (arith, k .3))) in
-              omega (arith, unheld-out row c x (leftAt live i) b (o .from), k .4, o .to)
+              omega (arith, unheld-out row c x (leftAt live i) b (o .left), k .4, o .right)
 
           go : T (holds t c (taskAt live i)) ⊎ T (not (holds t c (taskAt live i))) → T (not (holds t c (taskAt live i)))
           go (inl y) = absurd (over (holds-out t c (taskAt live i) y) (decLt i n))
@@ -179,7 +179,7 @@ module _ {W count n t : ℕ} {live row : List ℕ} (d : OnDevice W count live) (
           let i = y .0 in
           let i-in : i < count = omega (arith, y .1, a .few) in
           let v = after-stays f a i (y .1) in
-          let held : Holds t c (taskAt live i) = record { started = y .2; unfinished = omega arith; from = omega (arith, y .3); to = omega (arith, y .4, d .columns i i-in) } in
+          let held : Holds t c (taskAt live i) = record { started = y .2; unfinished = omega arith; left = omega (arith, y .3); right = omega (arith, y .4, d .columns i i-in) } in
           absurd (neither (holds t c (taskAt live i)) (holds-in t c (taskAt live i) held) (none-pass (holds t c) (tasksOf count live) x (in-tasks live count i i-in)))
         where
           neither : (b : Bool) → T b → T (not b) → ⊥

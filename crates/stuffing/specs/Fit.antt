@@ -1,5 +1,5 @@
 -- What the steps of Stuffing's two walks find: code-level definitions; no promise of a public call cites them. Assumes nothing.
-use Prim.Native.Nat.{ℕ, suc, _≤_, _<_}
+use Prim.Native.Nat.{ℕ, suc, _+_, _≤_, _<_}
 use mathlib.Core.Path.{_≡_}
 use mathlib.Core.Logic.{_⊎_}
 use mathlib.Core.Bool.{Bool, _&&_}
@@ -8,13 +8,13 @@ use lib.Dec.{leb}
 use lib.ListN.{getD}
 use Rattle.lists.specs.Lists.{_∈_, all?, range, never}
 use Rattle.tasks.specs.declared.Task.{Task}
-use Rattle.tasks.specs.Tasks.{overlap}
+use Rattle.tasks.specs.Tasks.{from, finish, past, overlap}
 use Rattle.columns.specs.Columns.{columns, Run, runs, key}
 use Rattle.live.specs.Live.{startAt, leftAt, pastAt}
 
 -- a stay on w columns from c on, e ticks from t on, shares a column with the task at a tick
 abbrev pub meetsAt : ℕ → ℕ → ℕ → ℕ → Task → Bool
-meetsAt c w t e u = overlap c w (u .column) (u .w) && overlap t e (u .start) (u .e)
+meetsAt c w t e u = overlap c (c + w) (u .column) (past u) && overlap t (t + e) (from u) (finish u)
 
 -- a row in which each of the first n tasks that has started by t stands at its first column, with the first one past it: what it says at 0
 -- means nothing

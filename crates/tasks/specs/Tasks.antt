@@ -8,29 +8,37 @@ use Rattle.tasks.specs.declared.Phase.the-variants.{Ended, Waiting, Runn
 use Rattle.tasks.specs.declared.Task.{Task}
 use Rattle.tasks.specs.declared.Submission.{Submission}
 
--- "its finish s + e"
+-- "A task started at s holds its columns from s": the first tick that it holds
+abbrev pub from : Task → ℕ
+from t = t .start
+
+-- "up to, not including, its finish s + e"
 abbrev pub finish : Task → ℕ
 finish t = t .start + t .e
 
--- from a on, n numbers, and from b on, m numbers: they share one
+-- the first column past it: "a task takes w adjacent columns"
+abbrev pub past : Task → ℕ
+past t = t .column + t .w
+
+-- what lies from a up to, not including, b and what lies from c up to d share a number
 abbrev pub overlap : ℕ → ℕ → ℕ → ℕ → Bool
-overlap a n b m = ltb (max a b) (min (a + n) (b + m))
+overlap a b c d = ltb (max a c) (min b d)
 
 -- "share a column at a tick (Definition 1)"
 unfoldable pub meets : Task → Task → Bool
-meets t u = overlap (t .column) (t .w) (u .column) (u .w) && overlap (t .start) (t .e) (u .start) (u .e)
+meets t u = overlap (t .column) (past t) (u .column) (past u) && overlap (from t) (finish t) (from u) (finish u)
 
--- the task has column c: "a task takes w adjacent columns"
+-- the task has column c
 unfoldable pub covers : ℕ → Task → Bool
-covers c t = leb (t .column) c && ltb c (t .column + t .w)
+covers c t = leb (t .column) c && ltb c (past t)
 
 -- "A task started at s holds its columns from s up to, not including, its finish s + e"
 unfoldable pub holds : ℕ → ℕ → Task → Bool
-holds i c t = leb (t .start) i && ltb i (finish t) && covers c t
+holds i c t = leb (from t) i && ltb i (finish t) && covers c t
 
 -- "waiting if t < s, running if s ≤ t < s + e, else ended, summed without wrap"
 unfoldable pub phaseAt : ℕ → Task → Phase
-phaseAt i t = cond (ltb i (t .start)) Waiting (cond (ltb i (finish t)) Running Ended)
+phaseAt i t = cond (ltb i (from t)) Waiting (cond (ltb i (finish t)) Running Ended)
 
 -- a phase is that of a live task: waiting or running
 abbrev pub livePhase : Phase → Bool
