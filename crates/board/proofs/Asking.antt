@@ -144,7 +144,8 @@ module _ (b : Board) (a : Submission) where
         go next false e = append-nil (given p buffer) ∙ given-first p buffer ∙ take-all k′ (left p) (ltb-false k′ (length (left p)) e)
 
     -- from (0, 0) on: every opening there is
-    pub asking-from-none : (n : ℕ) (buffer : List ℕ) → 2 ≤ length buffer → length (openings (b .device .columns) (b .now) (liveOf b) a) ≤ n → asking n (pair 0 0) buffer ≡ openings (b .device .columns) (b .now) (liveOf b) a
+    pub asking-from-none : (n : ℕ) (buffer : List ℕ) → 2 ≤ length buffer → length (openings (b .device .columns) (b .now) (liveOf b) a) ≤ n
+        → asking n (pair 0 0) buffer ≡ openings (b .device .columns) (b .now) (liveOf b) a
     unfolding remaining
     asking-from-none n buffer h l =
         let e = after-none (b .device .columns) (b .now) (liveOf b) a in
@@ -154,8 +155,9 @@ module _ (b : Board) (a : Submission) where
     pub full-takes-given : (buffer : List ℕ) → 2 ≤ length buffer → refusedSubmit b 3 a ≡ 0 → submitted b 3 a ≡ taken b a (head? (given (pair 0 0) buffer))
     unfolding planned full remaining
     full-takes-given buffer h e =
-        accepted-answered b 3 a e
-        ∙ ap (taken b a) (ap head? (sym (after-none (b .device .columns) (b .now) (liveOf b) a)) ∙ first (left (pair 0 0)) (length buffer / 2) (omega arith) ∙ ap head? (sym (given-first (pair 0 0) buffer)))
+        let from-none = ap head? (sym (after-none (b .device .columns) (b .now) (liveOf b) a)) in
+        let same = first (left (pair 0 0)) (length buffer / 2) (omega arith) in
+        accepted-answered b 3 a e ∙ ap (taken b a) (from-none ∙ same ∙ ap head? (sym (given-first (pair 0 0) buffer)))
       where
         first : (ps : List Place) (k : ℕ) → 1 ≤ k → head? ps ≡ head? (take k ps)
         first [] zero h = refl
