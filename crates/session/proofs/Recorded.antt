@@ -22,7 +22,8 @@ lines-got : (left : ℕ) (b : State) (n : ℕ) (bytes : List ℕ) (v : Event) (s
 unfolding linesFrom
 lines-got left b n bytes v size e = rw (e, linesFrom)
 
-pub run-lines : (left room : ℕ) (b : State) (n : ℕ) (bytes : List ℕ) → room ≤ left → linesFrom left b n bytes ≡ ranFrom room b n bytes .lines ++ goesOn left n bytes (ranFrom room b n bytes)
+pub run-lines : (left room : ℕ) (b : State) (n : ℕ) (bytes : List ℕ) → room ≤ left
+    → linesFrom left b n bytes ≡ ranFrom room b n bytes .lines ++ goesOn left n bytes (ranFrom room b n bytes)
 unfolding ranFrom
 run-lines left zero b n bytes h =
     let x : left ≡ left - 0 = omega arith in

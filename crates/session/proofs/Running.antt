@@ -36,7 +36,8 @@ use Rattle.session.specs.Standing.{Took}
 
 -- a whole record, and none
 pub ran-got : (m : ℕ) (b : State) (n : ℕ) (bytes : List ℕ) (v : Event) (size : ℕ) → readFrom bytes ≡ Got v size
-    → ranFrom (suc m) b n bytes ≡ record { lines = lineOf (suc n) (kindOf v) (outcome b v .answer) ∷ ranFrom m (outcome b v .state) (suc n) (drop size bytes) .lines; state = ranFrom m (outcome b v .state) (suc n) (drop size bytes) .state; taken = size + ranFrom m (outcome b v .state) (suc n) (drop size bytes) .taken }
+    → let later : Run = ranFrom m (outcome b v .state) (suc n) (drop size bytes) in
+    ranFrom (suc m) b n bytes ≡ record { lines = lineOf (suc n) (kindOf v) (outcome b v .answer) ∷ later .lines; state = later .state; taken = size + later .taken }
 unfolding ranFrom
 ran-got m b n bytes v size e = rw (e, ranFrom)
 
@@ -142,7 +143,8 @@ run-begin tasks clock D number most bytes lent live masks v o = record {
     as-booked true e = sym (aged-now D clock tasks (sound-out D clock tasks (subst T e tt)))
     as-booked false e = refl
 
-module _ {b : State} {number most : ℕ} {bytes lent answers : List ℕ} {tasks : List Task} {live masks : List ℕ} {d : Brief} {turns at n : ℕ} (o : Running b number most bytes lent answers tasks live masks d turns at n) where
+module _ {b : State} {number most : ℕ} {bytes lent answers : List ℕ} {tasks : List Task} {live masks : List ℕ} {d : Brief} {turns at n : ℕ}
+    (o : Running b number most bytes lent answers tasks live masks d turns at n) where
   pub same-room : length answers ≡ length lent
   same-room = ap length (o .words) ∙ length-sets lent 0 (lineWords (o .done))
 
@@ -221,9 +223,10 @@ module _ {b : State} {number most : ℕ} {bytes lent answers : List ℕ} {tasks 
       words =
           let behind : n * 6 ≡ 0 + length (lineWords (o .done)) = omega (arith, words-length (o .done), o .count) in
           let event : number + n + 1 ≡ suc (number + n) = omega arith in
-          let six : (number + n + 1) ∷ kind ∷ e .number ∷ e .column ∷ e .start ∷ e .finish ∷ [] ≡ lineWords (line ∷ []) = (λ i. event i ∷ k i ∷ g .number i ∷ g .column i ∷ g .start i ∷ g .finish i ∷ []) in
-          a ∙ ap (λ x. sets x (n * 6) ((number + n + 1) ∷ kind ∷ e .number ∷ e .column ∷ e .start ∷ e .finish ∷ [])) (o .words)
-          ∙ ap₂ (λ x y. sets (sets lent 0 (lineWords (o .done))) x y) behind six
+          let six : List ℕ = (number + n + 1) ∷ kind ∷ e .number ∷ e .column ∷ e .start ∷ e .finish ∷ [] in
+          let told : six ≡ lineWords (line ∷ []) = λ i. event i ∷ k i ∷ g .number i ∷ g .column i ∷ g .start i ∷ g .finish i ∷ [] in
+          a ∙ ap (λ x. sets x (n * 6) six) (o .words)
+          ∙ ap₂ (λ x y. sets (sets lent 0 (lineWords (o .done))) x y) behind told
           ∙ sets-append lent 0 (lineWords (o .done)) (lineWords (line ∷ [])) ∙ ap (sets lent 0) (sym (words-append (o .done) (line ∷ [])));
       count = omega (arith, length-append (o .done) (line ∷ []), o .count);
       upto = omega arith;
@@ -255,11 +258,14 @@ module _ {b : State} {number most : ℕ} {bytes lent answers : List ℕ} {tasks 
     run-end = (
       rw (← m) (λ i. record { count = counted i; taken = bytes-taken i; state = follows i }),
       (
-        rw (← m) (o .words ∙ sets-eq (lineWords (o .done)) lent 0 (omega (arith, words-length (o .done), o .count, o .upto, o .bound)) ∙ rw zero-add (ap (λ x. overFront (lineWords x) lent) (sym every))),
+        rw (← m) (o .words ∙ over ∙ ap (λ x. overFront (lineWords x) lent) (sym every)),
         (omega (arith, o .upto, o .bound), o .inside, λ x. omega (arith, o .upto, o .bound)),
       ),
     )
       where
+        over : sets lent 0 (lineWords (o .done)) ≡ overFront (lineWords (o .done)) lent
+        over = sets-eq (lineWords (o .done)) lent 0 (omega (arith, words-length (o .done), o .count, o .upto, o .bound)) ∙ rw zero-add
+
         counted : n ≡ length (ranFrom most b number bytes .lines)
         counted = o .count ∙ sym (ap length every)
 
