@@ -145,6 +145,13 @@ run-begin tasks clock D number most bytes lent live masks v o = record {
 
 module _ {b : State} {number most : ℕ} {bytes lent answers : List ℕ} {tasks : List Task} {live masks : List ℕ} {d : Brief} {turns at n : ℕ}
     (o : Running b number most bytes lent answers tasks live masks d turns at n) where
+  abbrev now : State
+  now = stateOf (o .slots) d
+
+  -- the run of what is left
+  abbrev rest : Run
+  rest = ranFrom (most - n) now (number + n) (drop at bytes)
+
   pub same-room : length answers ≡ length lent
   same-room = ap length (o .words) ∙ length-sets lent 0 (lineWords (o .done))
 
@@ -164,7 +171,7 @@ module _ {b : State} {number most : ℕ} {bytes lent answers : List ℕ} {tasks 
     upto = omega arith;
     bound = omega (arith, o .upto, o .bound);
     inside = o .inside;
-    goes-on = inr (refl, ran-none (most - n) (stateOf (o .slots) d) (number + n) (drop at bytes) (t .none e));
+    goes-on = inr (refl, ran-none (most - n) now (number + n) (drop at bytes) (t .none e));
   }
 
   -- AN EVENT MORE
@@ -173,9 +180,6 @@ module _ {b : State} {number most : ℕ} {bytes lent answers : List ℕ} {tasks 
       {after : List ℕ} {kind : ℕ} (k : kind ≡ kindOf (w .event))
       (a : after ≡ sets answers (n * 6) ((number + n + 1) ∷ kind ∷ e .number ∷ e .column ∷ e .start ∷ e .finish ∷ []))
       {next : List Task} (c : next ≡ changed (e .change) tasks) (z : length next ≡ 64) where
-    abbrev now : State
-    now = stateOf (o .slots) d
-
     abbrev out : Outcome
     out = outcome now (w .event)
 
@@ -191,12 +195,12 @@ module _ {b : State} {number most : ℕ} {bytes lent answers : List ℕ} {tasks 
     full : turns ≡ most
     full = pick (o .goes-on)
       where
-        pick : (turns ≡ most) ⊎ ((turns ≡ n) × (ranFrom (most - n) now (number + n) (drop at bytes) ≡ still now)) → turns ≡ most
+        pick : (turns ≡ most) ⊎ ((turns ≡ n) × (rest ≡ still now)) → turns ≡ most
         pick (inl x) = x
         pick (inr x) = absurd (omega (arith, x .0))
 
     -- one record off what is left
-    one : ranFrom (most - n) now (number + n) (drop at bytes) ≡ record { lines = line ∷ later .lines; state = later .state; taken = w .size + later .taken }
+    one : rest ≡ record { lines = line ∷ later .lines; state = later .state; taken = w .size + later .taken }
     one =
         let m : most - n ≡ suc (most - (n + 1)) = omega (arith, full) in
         let c1 : suc (number + n) ≡ number + (n + 1) = omega arith in
@@ -237,15 +241,14 @@ module _ {b : State} {number most : ℕ} {bytes lent answers : List ℕ} {tasks 
 
   -- AFTER THE LAST
   module _ (h : turns ≤ n) (m : most ≡ roomFor (length lent) number) {after : List Task} (c : after ≡ asBooked d tasks) where
-    ended : ranFrom (most - n) (stateOf (o .slots) d) (number + n) (drop at bytes) ≡ still (stateOf (o .slots) d)
+    ended : rest ≡ still now
     ended = pick (o .goes-on)
       where
-        stopped : (x : ℕ) → x ≡ 0 → ranFrom x (stateOf (o .slots) d) (number + n) (drop at bytes) ≡ still (stateOf (o .slots) d)
+        stopped : (x : ℕ) → x ≡ 0 → ranFrom x now (number + n) (drop at bytes) ≡ still now
         stopped zero y = ran-zero _ _ _
         stopped (suc x) y = absurd (omega arith)
 
-        pick : (turns ≡ most) ⊎ ((turns ≡ n) × (ranFrom (most - n) (stateOf (o .slots) d) (number + n) (drop at bytes) ≡ still (stateOf (o .slots) d)))
-            → ranFrom (most - n) (stateOf (o .slots) d) (number + n) (drop at bytes) ≡ still (stateOf (o .slots) d)
+        pick : (turns ≡ most) ⊎ ((turns ≡ n) × (rest ≡ still now)) → rest ≡ still now
         pick (inl x) = stopped (most - n) (omega arith)
         pick (inr x) = x .1
 
