@@ -128,23 +128,31 @@ module _ (b : Board) (a : Submission) where
         none-of [] l = refl
         none-of (q ∷ ps) l = absurd (omega arith)
     asking-all (suc n) p buffer h l =
-        ap (λ m. given p buffer ++ cond m (asking n (lastOr p (given p buffer)) (openedBuffer b a (p .start) (p .place) buffer)) []) (more-left p (length buffer))
+        ap (λ m. given p buffer ++ cond m (asking n last again) []) (more-left p (length buffer))
         ∙ go (λ q ws x y. asking-all n q ws x y) (ltb (length buffer / 2) (length (left p))) refl
       where
         k′ : ℕ
         k′ = length buffer / 2
 
+        -- the pair and the buffer of the next call
+        last : Place
+        last = lastOr p (given p buffer)
+
+        again : List ℕ
+        again = openedBuffer b a (p .start) (p .place) buffer
+
         go : ((q : Place) (ws : List ℕ) → 2 ≤ length ws → length (left q) ≤ n → asking n q ws ≡ left q) → (m : Bool) → ltb k′ (length (left p)) ≡ m
-            → given p buffer ++ cond m (asking n (lastOr p (given p buffer)) (openedBuffer b a (p .start) (p .place) buffer)) [] ≡ left p
+            → given p buffer ++ cond m (asking n last again) [] ≡ left p
         go next true e =
             let r = after-given p buffer in
-            let fewer : length (left (lastOr p (given p buffer))) ≤ n = omega (arith, ap length r, length-drop k′ (left p)) in
-            let on = next (lastOr p (given p buffer)) (openedBuffer b a (p .start) (p .place) buffer) (omega (arith, same-length p buffer)) fewer in
+            let fewer : length (left last) ≤ n = omega (arith, ap length r, length-drop k′ (left p)) in
+            let on = next last again (omega (arith, same-length p buffer)) fewer in
             ap (λ ps. given p buffer ++ ps) (on ∙ r) ∙ ap (λ ps. ps ++ drop k′ (left p)) (given-first p buffer) ∙ take-append-drop k′ (left p)
         go next false e = append-nil (given p buffer) ∙ given-first p buffer ∙ take-all k′ (left p) (ltb-false k′ (length (left p)) e)
 
     -- from (0, 0) on: every opening there is
-    pub asking-from-none : (n : ℕ) (buffer : List ℕ) → 2 ≤ length buffer → length (openings (b .device .columns) (b .now) (liveOf b) a) ≤ n → asking n (pair 0 0) buffer ≡ openings (b .device .columns) (b .now) (liveOf b) a
+    pub asking-from-none : (n : ℕ) (buffer : List ℕ) → 2 ≤ length buffer → length (openings (b .device .columns) (b .now) (liveOf b) a) ≤ n
+        → asking n (pair 0 0) buffer ≡ openings (b .device .columns) (b .now) (liveOf b) a
     unfolding remaining
     asking-from-none n buffer h l =
         let e = after-none (b .device .columns) (b .now) (liveOf b) a in
@@ -154,8 +162,9 @@ module _ (b : Board) (a : Submission) where
     pub full-takes-given : (buffer : List ℕ) → 2 ≤ length buffer → refusedSubmit b 3 a ≡ 0 → submitted b 3 a ≡ taken b a (head? (given (pair 0 0) buffer))
     unfolding planned full remaining
     full-takes-given buffer h e =
-        accepted-answered b 3 a e
-        ∙ ap (taken b a) (ap head? (sym (after-none (b .device .columns) (b .now) (liveOf b) a)) ∙ first (left (pair 0 0)) (length buffer / 2) (omega arith) ∙ ap head? (sym (given-first (pair 0 0) buffer)))
+        let from-none = ap head? (sym (after-none (b .device .columns) (b .now) (liveOf b) a)) in
+        let same = first (left (pair 0 0)) (length buffer / 2) (omega arith) in
+        accepted-answered b 3 a e ∙ ap (taken b a) (from-none ∙ same ∙ ap head? (sym (given-first (pair 0 0) buffer)))
       where
         first : (ps : List Place) (k : ℕ) → 1 ≤ k → head? ps ≡ head? (take k ps)
         first [] zero h = refl

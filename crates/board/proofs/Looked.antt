@@ -51,7 +51,10 @@ pub counted-board : (b : Board) (i : ℕ) → counted b i .board ≡ b
 unfolding counted
 counted-board b i = go (refusedInstant b i)
   where
-    go : (r : ℕ) → orRefused {A = Counted} r (λ k. record { number = k; count = 0; board = b }) (record { number = 0; count = busyColumns (b .device .columns) (liveOf b) i; board = b }) .board ≡ b
+    busy : ℕ
+    busy = busyColumns (b .device .columns) (liveOf b) i
+
+    go : (r : ℕ) → orRefused {A = Counted} r (λ k. record { number = k; count = 0; board = b }) (record { number = 0; count = busy; board = b }) .board ≡ b
     go zero = unfold orRefused in refl
     go (suc r) = unfold orRefused in refl
 

@@ -53,7 +53,8 @@ module _ (b : Board) (count : ℕ) (rows : List ℕ) (o : Stands 64 (b .tasks) c
   busy-lent : (i : ℕ) → busyColumns (b .device .columns) ts i ≡ busyColumns (b .device .columns) (liveOf b) i
   busy-lent i = busy-orderless (same-tasks (b .device) (b .now) (b .tasks) count rows o good) (b .device .columns) i ∙ busy-bare (liveOf b) (b .device .columns) i
 
-  module _ (buffer : List ℕ) {n : ℕ} {after : List ℕ} (e : n ≡ length (horizonList (b .device .columns) (b .now) ts)) (w : after ≡ written (horizonList (b .device .columns) (b .now) ts) buffer) where
+  module _ (buffer : List ℕ) {n : ℕ} {after : List ℕ} (e : n ≡ length (horizonList (b .device .columns) (b .now) ts))
+      (w : after ≡ written (horizonList (b .device .columns) (b .now) ts) buffer) where
     is-length : n ≡ length (horizonOf b)
     is-length = e ∙ ap length horizon-lent
 

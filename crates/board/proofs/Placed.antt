@@ -57,7 +57,8 @@ module _ (b : Board) (n : ℕ) (a : Submission) where
       (planned-opens (b .device .columns) (b .now) (liveOf b) a (k .reachable) n (t .0), t .1)
 
 -- FULL takes the first opening
-pub full-placed : (b : Board) (a : Submission) {c s f : ℕ} → submitted b 3 a .answer ≡ Placed c s f → (q : Place) → Opening (b .device .columns) (b .now) (liveOf b) a q → (q ≡ pair s c) ⊎ Before (pair s c) q
+pub full-placed : (b : Board) (a : Submission) {c s f : ℕ} → submitted b 3 a .answer ≡ Placed c s f → (q : Place) → Opening (b .device .columns) (b .now) (liveOf b) a q
+    → (q ≡ pair s c) ⊎ Before (pair s c) q
 unfolding planned
 full-placed b a {c} {s} {f} e q o =
     let r = unrefused b 3 a (Placed c s f) e (λ k x. let z : _≡_ {A = ℕ} 0 1 = cc in omega arith) in
@@ -81,7 +82,8 @@ pub record BooksAt (b : Board) (n : ℕ) (a : Submission) (free c s f : ℕ) : T
   pub finish : f ≡ s + a .e
   pub same : submitted b n a ≡ submittedBooked b a free c s
 
-pub placed-books : (b : Board) (n : ℕ) (a : Submission) {free c s f : ℕ} → free ≡ indexOf (λ k. not (live k)) (b .tasks) → submitted b n a .answer ≡ Placed c s f → BooksAt b n a free c s f
+pub placed-books : (b : Board) (n : ℕ) (a : Submission) {free c s f : ℕ} → free ≡ indexOf (λ k. not (live k)) (b .tasks)
+    → submitted b n a .answer ≡ Placed c s f → BooksAt b n a free c s f
 placed-books b n a {free} {c} {s} {f} z e =
     let r = unrefused b n a (Placed c s f) e (λ k q. let y : _≡_ {A = ℕ} 0 1 = cc in omega arith) in
     let k = submit-accepted b n a r in
@@ -104,7 +106,8 @@ pub refused-places : (m c s f : ℕ) → Refused m ≡ Placed c s f → ⊥
 refused-places m c s f q = let w : _≡_ {A = ℕ} 0 1 = cc in omega arith
 
 -- an answer that is no place hands back the same board
-pub unplaced-same : (b : Board) (n : ℕ) (a : Submission) (x : Answer) → submitted b n a .answer ≡ x → ((c s f : ℕ) → x ≡ Placed c s f → ⊥) → submitted b n a ≡ record { answer = x; board = b }
+pub unplaced-same : (b : Board) (n : ℕ) (a : Submission) (x : Answer) → submitted b n a .answer ≡ x → ((c s f : ℕ) → x ≡ Placed c s f → ⊥)
+    → submitted b n a ≡ record { answer = x; board = b }
 unplaced-same b n a x e none? = go (refusedSubmit b n a) refl
   where
     go : (r : ℕ) → refusedSubmit b n a ≡ r → submitted b n a ≡ record { answer = x; board = b }

@@ -107,15 +107,16 @@ full-slots ks z = same-bool (leb 64 (indexOf isFree ks)) (leb 64 (length (liveIn
 
 module _ (b : Board) (n : ℕ) (a : Submission) (count free : ℕ) (rows : List ℕ) (o : Kept (b .device) (b .now) (b .tasks) count rows) (l : free ≡ lowestFree (b .tasks)) where
   -- the refusals of the book are the code's
-  pub refused-after : {used : Bool} → used ≡ some? (λ (i : ℕ). eqb (idAt rows i) (a .id)) (range 0 count) → refusedSubmit b n a ≡ refusal (submitTests (b .device) (b .now) n a used (leb 64 free))
+  pub refused-after : {used : Bool} → used ≡ some? (λ (i : ℕ). eqb (idAt rows i) (a .id)) (range 0 count)
+      → refusedSubmit b n a ≡ refusal (submitTests (b .device) (b .now) n a used (leb 64 free))
   unfolding refusedSubmit
   refused-after {used} e =
       sound-passes (soundBoard b) (submitTests (b .device) (b .now) n a (known (a .id) (b .tasks)) (leb 64 (length (liveOf b)))) (o .good)
       ∙ ap (λ x. refusal (submitTests (b .device) (b .now) n a x (leb 64 (length (liveOf b))))) (sym (e ∙ known-same (b .device) (b .now) (b .tasks) count rows (o .stands) (o .good) (a .id)))
       ∙ ap (λ full. refusal (submitTests (b .device) (b .now) n a used full)) (sym (full-slots (b .tasks) (o .stands .slots)) ∙ ap (leb 64) (sym l))
 
-  pub refused-same : {r : ℕ} {used : Bool} → used ≡ some? (λ (i : ℕ). eqb (idAt rows i) (a .id)) (range 0 count) → r ≡ refusal (submitTests (b .device) (b .now) n a used (leb 64 free)) → 0 < r
-      → submitted b n a ≡ record { answer = Refused r; board = b }
+  pub refused-same : {r : ℕ} {used : Bool} → used ≡ some? (λ (i : ℕ). eqb (idAt rows i) (a .id)) (range 0 count)
+      → r ≡ refusal (submitTests (b .device) (b .now) n a used (leb 64 free)) → 0 < r → submitted b n a ≡ record { answer = Refused r; board = b }
   unfolding submitted
   refused-same {r} {used} e q h = go r (refused-after e ∙ sym q) h
     where
@@ -123,7 +124,8 @@ module _ (b : Board) (n : ℕ) (a : Submission) (count free : ℕ) (rows : List 
       go zero z l = absurd (omega arith)
       go (suc k) z l = unfold orRefused in rw z
 
-  accepted : {r : ℕ} {used : Bool} → used ≡ some? (λ (i : ℕ). eqb (idAt rows i) (a .id)) (range 0 count) → r ≡ refusal (submitTests (b .device) (b .now) n a used (leb 64 free)) → r ≡ 0 → Accepted b n a
+  accepted : {r : ℕ} {used : Bool} → used ≡ some? (λ (i : ℕ). eqb (idAt rows i) (a .id)) (range 0 count)
+      → r ≡ refusal (submitTests (b .device) (b .now) n a used (leb 64 free)) → r ≡ 0 → Accepted b n a
   accepted e q z = submit-accepted b n a (refused-after e ∙ sym q ∙ z)
 
   -- the planners' answers are the book's
@@ -144,7 +146,8 @@ module _ (b : Board) (n : ℕ) (a : Submission) (count free : ℕ) (rows : List 
       by (suc (suc (suc (suc m)))) h = absurd (omega arith)
 
   -- A TASK THAT IS NOT REFUSED
-  module _ {r : ℕ} {used : Bool} (e : used ≡ some? (λ (i : ℕ). eqb (idAt rows i) (a .id)) (range 0 count)) (q : r ≡ refusal (submitTests (b .device) (b .now) n a used (leb 64 free))) (z : r ≡ 0) where
+  module _ {r : ℕ} {used : Bool} (e : used ≡ some? (λ (i : ℕ). eqb (idAt rows i) (a .id)) (range 0 count))
+      (q : r ≡ refusal (submitTests (b .device) (b .now) n a used (leb 64 free))) (z : r ≡ 0) where
     k : Accepted b n a
     k = accepted e q z
 

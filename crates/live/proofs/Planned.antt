@@ -31,7 +31,7 @@ module _ {ks : List Task} {rows : List ℕ} {i : ℕ} (e : Entry ks rows i) wher
   unfolding number
   entry-start = e .numbers 0 (omega arith)
 
-  entry-finish : finishAt rows i ≡ its .start + its .e
+  pub entry-finish : finishAt rows i ≡ its .start + its .e
   unfolding number
   entry-finish = e .numbers 1 (omega arith)
 

@@ -19,6 +19,7 @@ use Rattle.words.specs.Words.{bit}
 use Rattle.live.specs.Live.{at, finishAt, leftAt, pastAt, slotAt, number, After, Falling, Masked}
 use Rattle.live.specs.Kept.{Entry, Stands, Opened, Closed, Inserted, Exchanged}
 use Rattle.live.proofs.Laws.{after-stays}
+use Rattle.live.proofs.Planned.{entry-finish}
 
 -- an entry at another place, or of other slots, that has the same numbers
 pub carry : {ks js : List Task} {rows next : List ℕ} {i j : ℕ} → Entry ks rows j → ((r : ℕ) → r < 6 → at r next i ≡ at r rows j)
@@ -31,11 +32,6 @@ carry {ks} {js} {rows} {next} {i} {j} e f t g =
       there = rw z t;
       numbers = λ r h. f r h ∙ e .numbers r h ∙ sym (g r) ∙ ap (λ s. number r s (getD js s freeSlot)) (sym z);
     }
-
--- the numbers of an entry are those of its task
-pub entry-finish : {ks : List Task} {rows : List ℕ} {i : ℕ} → Entry ks rows i → finishAt rows i ≡ finish (getD ks (slotAt rows i) freeSlot)
-unfolding number
-entry-finish e = e .numbers 1 (omega arith)
 
 -- another slot keeps its task
 other : (ks : List Task) (n : ℕ) (k : Task) (s : ℕ) → (s ≡ n → ⊥) → getD (set ks n k) s freeSlot ≡ getD ks s freeSlot

@@ -17,12 +17,17 @@ use Rattle.session.proofs.Running.{ran-got}
 abbrev pub goesOn : ℕ → ℕ → List ℕ → Run → List Line
 goesOn left n bytes r = linesFrom (left - length (r .lines)) (r .state) (n + length (r .lines)) (drop (r .taken) bytes)
 
+-- the lines are those of a run of so many events, and what goes on after it
+abbrev Continues : ℕ → ℕ → State → ℕ → List ℕ → Type 0
+Continues left room b n bytes = linesFrom left b n bytes ≡ ranFrom room b n bytes .lines ++ goesOn left n bytes (ranFrom room b n bytes)
+
 lines-got : (left : ℕ) (b : State) (n : ℕ) (bytes : List ℕ) (v : Event) (size : ℕ) → readFrom bytes ≡ Got v size
     → linesFrom (suc left) b n bytes ≡ lineOf (suc n) (kindOf v) (outcome b v .answer) ∷ linesFrom left (outcome b v .state) (suc n) (drop size bytes)
 unfolding linesFrom
 lines-got left b n bytes v size e = rw (e, linesFrom)
 
-pub run-lines : (left room : ℕ) (b : State) (n : ℕ) (bytes : List ℕ) → room ≤ left → linesFrom left b n bytes ≡ ranFrom room b n bytes .lines ++ goesOn left n bytes (ranFrom room b n bytes)
+pub run-lines : (left room : ℕ) (b : State) (n : ℕ) (bytes : List ℕ) → room ≤ left
+    → linesFrom left b n bytes ≡ ranFrom room b n bytes .lines ++ goesOn left n bytes (ranFrom room b n bytes)
 unfolding ranFrom
 run-lines left zero b n bytes h =
     let x : left ≡ left - 0 = omega arith in
@@ -31,14 +36,13 @@ run-lines left zero b n bytes h =
 run-lines zero (suc room) b n bytes h = absurd (omega arith)
 run-lines (suc left) (suc room) b n bytes h = go (λ c m ws. run-lines left room c m ws (omega arith)) (readFrom bytes) refl
   where
-    stopped : ranFrom (suc room) b n bytes ≡ still b → linesFrom (suc left) b n bytes ≡ ranFrom (suc room) b n bytes .lines ++ goesOn (suc left) n bytes (ranFrom (suc room) b n bytes)
+    stopped : ranFrom (suc room) b n bytes ≡ still b → Continues (suc left) (suc room) b n bytes
     stopped e =
         let y : n ≡ n + 0 = omega arith in
         let x : suc left ≡ suc left - 0 = omega arith in
         ap (λ m. linesFrom (suc left) b m bytes) y ∙ ap (λ m. linesFrom m b (n + 0) bytes) x ∙ sym (ap (λ r. r .lines ++ goesOn (suc left) n bytes r) e)
 
-    go : ((c : State) (m : ℕ) (ws : List ℕ) → linesFrom left c m ws ≡ ranFrom room c m ws .lines ++ goesOn left m ws (ranFrom room c m ws)) → (r : Reading) → readFrom bytes ≡ r
-        → linesFrom (suc left) b n bytes ≡ ranFrom (suc room) b n bytes .lines ++ goesOn (suc left) n bytes (ranFrom (suc room) b n bytes)
+    go : ((c : State) (m : ℕ) (ws : List ℕ) → Continues left room c m ws) → (r : Reading) → readFrom bytes ≡ r → Continues (suc left) (suc room) b n bytes
     go next End e = stopped (rw (e, ranFrom))
     go next (CutShort k) e = stopped (rw (e, ranFrom))
     go next (Unknown k) e = stopped (rw (e, ranFrom))

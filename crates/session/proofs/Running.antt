@@ -36,7 +36,8 @@ use Rattle.session.specs.Standing.{Took}
 
 -- a whole record, and none
 pub ran-got : (m : ℕ) (b : State) (n : ℕ) (bytes : List ℕ) (v : Event) (size : ℕ) → readFrom bytes ≡ Got v size
-    → ranFrom (suc m) b n bytes ≡ record { lines = lineOf (suc n) (kindOf v) (outcome b v .answer) ∷ ranFrom m (outcome b v .state) (suc n) (drop size bytes) .lines; state = ranFrom m (outcome b v .state) (suc n) (drop size bytes) .state; taken = size + ranFrom m (outcome b v .state) (suc n) (drop size bytes) .taken }
+    → let later : Run = ranFrom m (outcome b v .state) (suc n) (drop size bytes) in
+    ranFrom (suc m) b n bytes ≡ record { lines = lineOf (suc n) (kindOf v) (outcome b v .answer) ∷ later .lines; state = later .state; taken = size + later .taken }
 unfolding ranFrom
 ran-got m b n bytes v size e = rw (e, ranFrom)
 
@@ -142,7 +143,15 @@ run-begin tasks clock D number most bytes lent live masks v o = record {
     as-booked true e = sym (aged-now D clock tasks (sound-out D clock tasks (subst T e tt)))
     as-booked false e = refl
 
-module _ {b : State} {number most : ℕ} {bytes lent answers : List ℕ} {tasks : List Task} {live masks : List ℕ} {d : Brief} {turns at n : ℕ} (o : Running b number most bytes lent answers tasks live masks d turns at n) where
+module _ {b : State} {number most : ℕ} {bytes lent answers : List ℕ} {tasks : List Task} {live masks : List ℕ} {d : Brief} {turns at n : ℕ}
+    (o : Running b number most bytes lent answers tasks live masks d turns at n) where
+  abbrev now : State
+  now = stateOf (o .slots) d
+
+  -- the run of what is left
+  abbrev rest : Run
+  rest = ranFrom (most - n) now (number + n) (drop at bytes)
+
   pub same-room : length answers ≡ length lent
   same-room = ap length (o .words) ∙ length-sets lent 0 (lineWords (o .done))
 
@@ -162,7 +171,7 @@ module _ {b : State} {number most : ℕ} {bytes lent answers : List ℕ} {tasks 
     upto = omega arith;
     bound = omega (arith, o .upto, o .bound);
     inside = o .inside;
-    goes-on = inr (refl, ran-none (most - n) (stateOf (o .slots) d) (number + n) (drop at bytes) (t .none e));
+    goes-on = inr (refl, ran-none (most - n) now (number + n) (drop at bytes) (t .none e));
   }
 
   -- AN EVENT MORE
@@ -171,9 +180,6 @@ module _ {b : State} {number most : ℕ} {bytes lent answers : List ℕ} {tasks 
       {after : List ℕ} {kind : ℕ} (k : kind ≡ kindOf (w .event))
       (a : after ≡ sets answers (n * 6) ((number + n + 1) ∷ kind ∷ e .number ∷ e .column ∷ e .start ∷ e .finish ∷ []))
       {next : List Task} (c : next ≡ changed (e .change) tasks) (z : length next ≡ 64) where
-    abbrev now : State
-    now = stateOf (o .slots) d
-
     abbrev out : Outcome
     out = outcome now (w .event)
 
@@ -189,12 +195,12 @@ module _ {b : State} {number most : ℕ} {bytes lent answers : List ℕ} {tasks 
     full : turns ≡ most
     full = pick (o .goes-on)
       where
-        pick : (turns ≡ most) ⊎ ((turns ≡ n) × (ranFrom (most - n) now (number + n) (drop at bytes) ≡ still now)) → turns ≡ most
+        pick : (turns ≡ most) ⊎ ((turns ≡ n) × (rest ≡ still now)) → turns ≡ most
         pick (inl x) = x
         pick (inr x) = absurd (omega (arith, x .0))
 
     -- one record off what is left
-    one : ranFrom (most - n) now (number + n) (drop at bytes) ≡ record { lines = line ∷ later .lines; state = later .state; taken = w .size + later .taken }
+    one : rest ≡ record { lines = line ∷ later .lines; state = later .state; taken = w .size + later .taken }
     one =
         let m : most - n ≡ suc (most - (n + 1)) = omega (arith, full) in
         let c1 : suc (number + n) ≡ number + (n + 1) = omega arith in
@@ -221,9 +227,10 @@ module _ {b : State} {number most : ℕ} {bytes lent answers : List ℕ} {tasks 
       words =
           let behind : n * 6 ≡ 0 + length (lineWords (o .done)) = omega (arith, words-length (o .done), o .count) in
           let event : number + n + 1 ≡ suc (number + n) = omega arith in
-          let six : (number + n + 1) ∷ kind ∷ e .number ∷ e .column ∷ e .start ∷ e .finish ∷ [] ≡ lineWords (line ∷ []) = (λ i. event i ∷ k i ∷ g .number i ∷ g .column i ∷ g .start i ∷ g .finish i ∷ []) in
-          a ∙ ap (λ x. sets x (n * 6) ((number + n + 1) ∷ kind ∷ e .number ∷ e .column ∷ e .start ∷ e .finish ∷ [])) (o .words)
-          ∙ ap₂ (λ x y. sets (sets lent 0 (lineWords (o .done))) x y) behind six
+          let six : List ℕ = (number + n + 1) ∷ kind ∷ e .number ∷ e .column ∷ e .start ∷ e .finish ∷ [] in
+          let told : six ≡ lineWords (line ∷ []) = λ i. event i ∷ k i ∷ g .number i ∷ g .column i ∷ g .start i ∷ g .finish i ∷ [] in
+          a ∙ ap (λ x. sets x (n * 6) six) (o .words)
+          ∙ ap₂ (λ x y. sets (sets lent 0 (lineWords (o .done))) x y) behind told
           ∙ sets-append lent 0 (lineWords (o .done)) (lineWords (line ∷ [])) ∙ ap (sets lent 0) (sym (words-append (o .done) (line ∷ [])));
       count = omega (arith, length-append (o .done) (line ∷ []), o .count);
       upto = omega arith;
@@ -234,15 +241,14 @@ module _ {b : State} {number most : ℕ} {bytes lent answers : List ℕ} {tasks 
 
   -- AFTER THE LAST
   module _ (h : turns ≤ n) (m : most ≡ roomFor (length lent) number) {after : List Task} (c : after ≡ asBooked d tasks) where
-    ended : ranFrom (most - n) (stateOf (o .slots) d) (number + n) (drop at bytes) ≡ still (stateOf (o .slots) d)
+    ended : rest ≡ still now
     ended = pick (o .goes-on)
       where
-        stopped : (x : ℕ) → x ≡ 0 → ranFrom x (stateOf (o .slots) d) (number + n) (drop at bytes) ≡ still (stateOf (o .slots) d)
+        stopped : (x : ℕ) → x ≡ 0 → ranFrom x now (number + n) (drop at bytes) ≡ still now
         stopped zero y = ran-zero _ _ _
         stopped (suc x) y = absurd (omega arith)
 
-        pick : (turns ≡ most) ⊎ ((turns ≡ n) × (ranFrom (most - n) (stateOf (o .slots) d) (number + n) (drop at bytes) ≡ still (stateOf (o .slots) d)))
-            → ranFrom (most - n) (stateOf (o .slots) d) (number + n) (drop at bytes) ≡ still (stateOf (o .slots) d)
+        pick : (turns ≡ most) ⊎ ((turns ≡ n) × (rest ≡ still now)) → rest ≡ still now
         pick (inl x) = stopped (most - n) (omega arith)
         pick (inr x) = x .1
 
@@ -255,11 +261,14 @@ module _ {b : State} {number most : ℕ} {bytes lent answers : List ℕ} {tasks 
     run-end = (
       rw (← m) (λ i. record { count = counted i; taken = bytes-taken i; state = follows i }),
       (
-        rw (← m) (o .words ∙ sets-eq (lineWords (o .done)) lent 0 (omega (arith, words-length (o .done), o .count, o .upto, o .bound)) ∙ rw zero-add (ap (λ x. overFront (lineWords x) lent) (sym every))),
+        rw (← m) (o .words ∙ over ∙ ap (λ x. overFront (lineWords x) lent) (sym every)),
         (omega (arith, o .upto, o .bound), o .inside, λ x. omega (arith, o .upto, o .bound)),
       ),
     )
       where
+        over : sets lent 0 (lineWords (o .done)) ≡ overFront (lineWords (o .done)) lent
+        over = sets-eq (lineWords (o .done)) lent 0 (omega (arith, words-length (o .done), o .count, o .upto, o .bound)) ∙ rw zero-add
+
         counted : n ≡ length (ranFrom most b number bytes .lines)
         counted = o .count ∙ sym (ap length every)
 

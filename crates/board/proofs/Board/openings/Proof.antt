@@ -51,7 +51,9 @@ returns-3 c =
     let t = n .before .before .before in
     let a = t .before .before .before .before .before .args in
     let k = t .stand .ensures .tested .kept (not-false _ (n .before .if1 .left)) in
-    listed-opened (a .self) (a .a) (a .start) (a .column) (a .buffer .now) _ _ k (n .refuse-openings .ensures) (omega (arith, l .before .before .before .before .before .before .if2 .left)) (l .list .ensures .0) (l .list .ensures .1)
+    let passed = l .before .before .before .before .before .before .if2 .left in
+    let written = l .list .ensures in
+    listed-opened (a .self) (a .a) (a .start) (a .column) (a .buffer .now) _ _ k (n .refuse-openings .ensures) (omega (arith, passed)) (written .0) (written .1)
 
 pub openings-spec : {M : Type 1} → statement M
 openings-spec =
