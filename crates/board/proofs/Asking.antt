@@ -14,7 +14,7 @@ use Rattle.lists.proofs.Bools.{and-i, is-true}
 use Rattle.lists.proofs.Order.{Sorted}
 use Rattle.ways.specs.Ways.{pair}
 use Rattle.tasks.specs.declared.Submission.{Submission}
-use Rattle.tasks.specs.Numbers.{within, sizeFits, timeFits}
+use Rattle.tasks.specs.Numbers.{within, sizeFits, timeFits, lastInstant, longest}
 use Rattle.tasks.proofs.Laws.{within-in}
 use Rattle.planners.specs.Openings.{Place, openings, pairWords, full}
 use Rattle.planners.specs.Planners.{planned}
@@ -45,7 +45,7 @@ pub not-refused : (b : Board) (a : Submission) → SoundBoard b → Reachable b 
 unfolding refusedOpenings
 not-refused b a s k =
     let sized = and-i (within 1 (b .device .columns) (a .w)) (within 1 (b .device .rows) (a .h)) (within-in 1 (b .device .columns) (a .w) (k .w)) (within-in 1 (b .device .rows) (a .h) (k .h)) in
-    let timed = and-i (within 1 1000000 (a .e)) (leb (a .d) 2000000000) (within-in 1 1000000 (a .e) (k .e)) (le→leb (a .d) 2000000000 (k .d)) in
+    let timed = and-i (within 1 longest (a .e)) (leb (a .d) lastInstant) (within-in 1 longest (a .e) (k .e)) (le→leb (a .d) lastInstant (k .d)) in
     sound-passes (soundBoard b) (openingsTests (b .device) (b .now) a) (is-true (soundBoard b) (sound-in (b .device) (b .now) (b .tasks) s))
     ∙ passed-over 5 (not (sizeFits (b .device) (a .w) (a .h))) _ (ap not (is-true (sizeFits (b .device) (a .w) (a .h)) sized))
     ∙ passed-over 6 (not (timeFits (a .e) (a .d))) _ (ap not (is-true (timeFits (a .e) (a .d)) timed))

@@ -18,7 +18,7 @@ use Rattle.lists.proofs.Append.{index-test, index-passes}
 use Rattle.tasks.specs.declared.Device.{Device}
 use Rattle.tasks.specs.declared.Task.{Task}
 use Rattle.tasks.specs.declared.Submission.{Submission}
-use Rattle.tasks.specs.Numbers.{within, device, deviceFits, sizeFits, timeFits}
+use Rattle.tasks.specs.Numbers.{within, device, deviceFits, sizeFits, timeFits, largestId, lastInstant, longest}
 use Rattle.tasks.specs.Tasks.{finish, live, waitingPhase, stamped, freeSlot, zeros, booked}
 use Rattle.tasks.proofs.Laws.{Between, within-out}
 use Rattle.planners.specs.Openings.{Place}
@@ -54,8 +54,8 @@ pub record Accepted (b : Board) (n : ℕ) (a : Submission) : Type 0 where
   pub id : 1 ≤ a .id
   pub w : Between 1 (b .device .columns) (a .w)
   pub h : Between 1 (b .device .rows) (a .h)
-  pub e : Between 1 1000000 (a .e)
-  pub d : a .d ≤ 2000000000
+  pub e : Between 1 longest (a .e)
+  pub d : a .d ≤ lastInstant
   pub new : (l : Task) → l ∈ b .tasks → T (live l) → l .id ≡ a .id → ⊥
   pub reachable : b .now + a .e ≤ a .d
   pub room : length (liveOf b) < 64
@@ -79,8 +79,8 @@ submit-accepted b n a e =
       id = positive (r4 .0);
       w = within-out 1 (b .device .columns) (a .w) (and-l (within 1 (b .device .columns) (a .w)) (within 1 (b .device .rows) (a .h)) five);
       h = within-out 1 (b .device .rows) (a .h) (and-r (within 1 (b .device .columns) (a .w)) (within 1 (b .device .rows) (a .h)) five);
-      e = within-out 1 1000000 (a .e) (and-l (within 1 1000000 (a .e)) (leb (a .d) 2000000000) six);
-      d = leb→le (a .d) 2000000000 (and-r (within 1 1000000 (a .e)) (leb (a .d) 2000000000) six);
+      e = within-out 1 longest (a .e) (and-l (within 1 longest (a .e)) (leb (a .d) lastInstant) six);
+      d = leb→le (a .d) lastInstant (and-r (within 1 longest (a .e)) (leb (a .d) lastInstant) six);
       new = λ l m t q.
           T-not (live l && eqb (l .id) (a .id)) (none-pass (λ k. live k && eqb (k .id) (a .id)) (b .tasks) (r7 .0) m)
           (and-i (live l) (eqb (l .id) (a .id)) t (rw q (eqb-refl (a .id))));
@@ -92,7 +92,7 @@ submit-accepted b n a e =
     positive h = let k : a .id ≡ 0 → ⊥ = λ z. T-not (eqb (a .id) 0) h (rw z tt) in omega arith
 
 -- the record as booked is a sound task, apart from every live one
-module _ (b : Board) (n : ℕ) (a : Submission) (big : a .id ≤ 4294967295) (k : Accepted b n a) (p : Place) (o : Opening (b .device .columns) (b .now) (liveOf b) a p) where
+module _ (b : Board) (n : ℕ) (a : Submission) (big : a .id ≤ largestId) (k : Accepted b n a) (p : Place) (o : Opening (b .device .columns) (b .now) (liveOf b) a p) where
   new-task : SoundTask (b .device) (b .now) (booked (b .now) a (p .start) (p .place))
   unfolding booked stamped
   new-task =
@@ -115,7 +115,7 @@ module _ (b : Board) (n : ℕ) (a : Submission) (big : a .id ≤ 4294967295) (k 
   new-apart l m t = record { ids = λ e. k .new l m t (sym e); apart = λ s. o .apart l (in-keep live m t) (s .column) (s .tick) }
 
 -- A SOUND BOARD STAYS SOUND: submission
-pub submitted-sound : (b : Board) (n : ℕ) (a : Submission) → a .id ≤ 4294967295 → SoundBoard b → SoundBoard (submitted b n a .board)
+pub submitted-sound : (b : Board) (n : ℕ) (a : Submission) → a .id ≤ largestId → SoundBoard b → SoundBoard (submitted b n a .board)
 unfolding submitted answered orRefused taken withTask
 submitted-sound b n a big s = go (refusedSubmit b n a) refl
   where
@@ -133,7 +133,7 @@ submitted-sound b n a big s = go (refusedSubmit b n a) refl
 pub record Passable (b : Board) (i : ℕ) : Type 0 where
   pub sound : SoundBoard b
   pub from-now : b .now ≤ i
-  pub until : i ≤ 2000000000
+  pub until : i ≤ lastInstant
 
 pub instant-passable : (b : Board) (i : ℕ) → refusedInstant b i ≡ 0 → Passable b i
 unfolding refusedInstant
@@ -144,7 +144,7 @@ instant-passable b i e =
     record {
       sound = sound-out (b .device) (b .now) (b .tasks) (not-not (soundBoard b) (r1 .0));
       from-now = nltb→le i (b .now) (r11 .0);
-      until = nltb→le 2000000000 i (r12 .0);
+      until = nltb→le lastInstant i (r12 .0);
     }
 
 pub clocked-stays-sound : (b : Board) (i : ℕ) → SoundBoard b → SoundBoard (clocked b i .board)
@@ -307,14 +307,14 @@ rejected-same b n a e = go (refusedSubmit b n a) (planned (b .device .columns) (
     go (suc r) o q = refl
 
 -- an instant from now on, and not too late, is not refused
-pub instant-allowed : (b : Board) (i : ℕ) → SoundBoard b → b .now ≤ i → i ≤ 2000000000 → refusedInstant b i ≡ 0
+pub instant-allowed : (b : Board) (i : ℕ) → SoundBoard b → b .now ≤ i → i ≤ lastInstant → refusedInstant b i ≡ 0
 unfolding refusedInstant
 instant-allowed b i s l h =
     sound-passes (soundBoard b) (instantTests (b .now) i) (is-true (soundBoard b) (sound-in (b .device) (b .now) (b .tasks) s))
-    ∙ passed-over 11 _ _ (le-ltb i (b .now) l) ∙ passed-over 12 _ _ (le-ltb 2000000000 i h) ∙ none-left
+    ∙ passed-over 11 _ _ (le-ltb i (b .now) l) ∙ passed-over 12 _ _ (le-ltb lastInstant i h) ∙ none-left
 
 -- the clock of a sound board, to an instant that is not refused
-pub clocked-done : (b : Board) (i : ℕ) → SoundBoard b → b .now ≤ i → i ≤ 2000000000 → clocked b i ≡ record { number = 0; board = boardAt b i }
+pub clocked-done : (b : Board) (i : ℕ) → SoundBoard b → b .now ≤ i → i ≤ lastInstant → clocked b i ≡ record { number = 0; board = boardAt b i }
 unfolding clocked orRefused
 clocked-done b i s l h = rw (instant-allowed b i s l h)
 
@@ -326,7 +326,7 @@ clock-to-now b s =
     ∙ ap (λ ks. record { number = 0; board = withTasks b ks }) (aged-now (b .device) (b .now) (b .tasks) s)
 
 -- TWO CLOCKS ONE AFTER THE OTHER ARE THE LATER ONE
-pub clock-twice : (b : Board) (i j : ℕ) → SoundBoard b → b .now ≤ i → i ≤ j → j ≤ 2000000000 → clocked (clocked b i .board) j ≡ clocked b j
+pub clock-twice : (b : Board) (i j : ℕ) → SoundBoard b → b .now ≤ i → i ≤ j → j ≤ lastInstant → clocked (clocked b i .board) j ≡ clocked b j
 unfolding boardAt
 clock-twice b i j s l m h =
     let e : clocked b i .board ≡ boardAt b i = ap (λ r. r .board) (clocked-done b i s l (omega arith)) in

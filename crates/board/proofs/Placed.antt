@@ -9,6 +9,7 @@ use Rattle.tasks.specs.Tasks.{live}
 use native.Mathlib.Omega.{arith}
 use Rattle.ways.specs.Ways.{pair}
 use Rattle.tasks.specs.declared.Submission.{Submission}
+use Rattle.tasks.specs.Numbers.{lastInstant}
 use Rattle.planners.specs.Openings.{Place}
 use Rattle.planners.specs.Planners.{planned}
 use Rattle.planners.proofs.Openings.{Opening, Before, full-first, full-rejects}
@@ -78,7 +79,7 @@ pub record BooksAt (b : Board) (n : ℕ) (a : Submission) (free c s f : ℕ) : T
   pub accepted : Accepted b n a
   pub inside : free < 64
   pub from-now : b .now ≤ s
-  pub fits : s + a .e ≤ 2000000000
+  pub fits : s + a .e ≤ lastInstant
   pub finish : f ≡ s + a .e
   pub same : submitted b n a ≡ submittedBooked b a free c s
 

@@ -16,6 +16,7 @@ use Rattle.ways.specs.Ways.{pair}
 use Rattle.tasks.specs.declared.Task.{Task}
 use Rattle.tasks.specs.declared.Submission.{Submission}
 use Rattle.tasks.specs.Tasks.{live, stamped, booked, meets}
+use Rattle.tasks.specs.Numbers.{lastInstant}
 use Rattle.planners.specs.declared.Found.{Found}
 use Rattle.planners.specs.declared.Found.the-variants.{Nothing, At}
 use Rattle.planners.specs.Openings.{Place, full, ways}
@@ -171,7 +172,7 @@ module _ (b : Board) (n : ℕ) (a : Submission) (count free : ℕ) (rows : List 
 
     -- a place was found
     pub record Settled (c t : ℕ) : Type 0 where
-      pub fits : t + a .e ≤ 2000000000
+      pub fits : t + a .e ≤ lastInstant
       pub same : Placed (c % 65536) t (t + a .e) ≡ submitted b n a .answer
 
     pub settled : {f : Found} {c t : ℕ} → f ≡ foundOf (planned (b .device .columns) (b .now) (tasksOf count rows) (wanted window) n) → f ≡ At c t → Settled c t

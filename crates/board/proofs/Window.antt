@@ -10,7 +10,7 @@ use Rattle.lists.specs.Lists.{overFront}
 use Rattle.lists.proofs.Bools.{and-l, and-r, not-not}
 use Rattle.ways.specs.Ways.{pair, after, openingsAfter}
 use Rattle.tasks.specs.declared.Submission.{Submission}
-use Rattle.tasks.specs.Numbers.{within, sizeFits, timeFits}
+use Rattle.tasks.specs.Numbers.{within, sizeFits, timeFits, lastInstant, longest}
 use Rattle.tasks.proofs.Laws.{Between, within-out}
 use Rattle.tasks.specs.Tasks.{meets, stamped, booked}
 use Rattle.planners.specs.Openings.{ways, pairWords}
@@ -34,8 +34,8 @@ use Rattle.refusals.proofs.First.{none-holds, sound-passes, unsound-refused}
 pub record Reachable (b : Board) (a : Submission) : Type 0 where
   pub w : Between 1 (b .device .columns) (a .w)
   pub h : Between 1 (b .device .rows) (a .h)
-  pub e : Between 1 1000000 (a .e)
-  pub d : a .d ≤ 2000000000
+  pub e : Between 1 longest (a .e)
+  pub d : a .d ≤ lastInstant
   pub reachable : b .now + a .e ≤ a .d
 
 -- WHAT A REQUEST THAT IS NOT REFUSED BRINGS
@@ -49,8 +49,8 @@ window b a e =
     record {
       w = within-out 1 (b .device .columns) (a .w) (and-l (within 1 (b .device .columns) (a .w)) (within 1 (b .device .rows) (a .h)) five);
       h = within-out 1 (b .device .rows) (a .h) (and-r (within 1 (b .device .columns) (a .w)) (within 1 (b .device .rows) (a .h)) five);
-      e = within-out 1 1000000 (a .e) (and-l (within 1 1000000 (a .e)) (leb (a .d) 2000000000) six);
-      d = leb→le (a .d) 2000000000 (and-r (within 1 1000000 (a .e)) (leb (a .d) 2000000000) six);
+      e = within-out 1 longest (a .e) (and-l (within 1 longest (a .e)) (leb (a .d) lastInstant) six);
+      d = leb→le (a .d) lastInstant (and-r (within 1 longest (a .e)) (leb (a .d) lastInstant) six);
       reachable = nltb→le (a .d) (b .now + a .e) (r8 .0);
     }
 

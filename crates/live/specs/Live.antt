@@ -10,6 +10,7 @@ use Rattle.lists.specs.Lists.{range, never}
 use Rattle.tasks.specs.declared.Phase.the-variants.{Ended}
 use Rattle.tasks.specs.declared.Task.{Task}
 use Rattle.tasks.specs.Tasks.{finish, meets}
+use Rattle.tasks.specs.Numbers.{lastInstant}
 use Rattle.words.specs.Words.{bit}
 
 -- the number of task i in row r: 64 numbers a row
@@ -65,7 +66,7 @@ pub record OnDevice (W n : ℕ) (live : List ℕ) : Type 0 where
   pub columns : (i : ℕ) → i < n → leftAt live i < pastAt live i
   pub past : (i : ℕ) → i < n → pastAt live i ≤ suc W
   pub ticks : (i : ℕ) → i < n → startAt live i < finishAt live i
-  pub until : (i : ℕ) → i < n → finishAt live i ≤ 2000000000
+  pub until : (i : ℕ) → i < n → finishAt live i ≤ lastInstant
 
 -- the last to finish stands first
 abbrev pub Falling : ℕ → List ℕ → Type 0

@@ -15,7 +15,7 @@ use Rattle.lists.proofs.Order.{Sorted, sorted-at, at-sorted, range-pairs, pairs
 use Rattle.lists.proofs.Append.{and-true, all-range-more, range-first}
 use Rattle.tasks.specs.declared.Device.{Device}
 use Rattle.tasks.specs.declared.Task.{Task}
-use Rattle.tasks.specs.Numbers.{within, deviceFits}
+use Rattle.tasks.specs.Numbers.{within, deviceFits, lastInstant}
 use Rattle.tasks.specs.Tasks.{meets, live, freeSlot}
 use Rattle.tasks.proofs.Laws.{within-out, meets-share, share-meets}
 use Rattle.slots.specs.Slots.{liveIn, slotSound, together, sound}
@@ -178,9 +178,9 @@ module _ (D : Device) (now : ℕ) (ks : List Task) (n : ℕ) (rows : List ℕ) (
 
 -- WHAT WAS FOUND IS SOUND exactly if device, clock and slots are, and then by the pairs
 module _ (D : Device) (now : ℕ) (ks : List Task) (raw : List ℕ) (v : Findings) (o : Surveyed D now ks raw v) where
-  sound-not : (deviceFits D && leb now 2000000000 && v .sound) ≡ false → sound D now ks ≡ false
+  sound-not : (deviceFits D && leb now lastInstant && v .sound) ≡ false → sound D now ks ≡ false
   unfolding sound
-  sound-not e = rw (o .slots, ← o .sound) (none (deviceFits D && leb now 2000000000) (v .sound) e)
+  sound-not e = rw (o .slots, ← o .sound) (none (deviceFits D && leb now lastInstant) (v .sound) e)
     where
       none : (a s : Bool) → (a && s) ≡ false → (a && true && s && pairwise? together (liveIn ks)) ≡ false
       none true true q = absurd (subst T q tt)
@@ -188,7 +188,7 @@ module _ (D : Device) (now : ℕ) (ks : List Task) (raw : List ℕ) (v : Finding
       none false s q = refl
 
   -- THE TEST, where something before the pairs fails
-  pub tested-not : {rows : List ℕ} → length rows ≡ 384 → (deviceFits D && leb now 2000000000 && v .sound) ≡ false
+  pub tested-not : {rows : List ℕ} → length rows ≡ 384 → (deviceFits D && leb now lastInstant && v .sound) ≡ false
       → Tested D now ks rows (record { count = v .count; used = v .used; sound = false })
   tested-not z e = record {
     size = z;
@@ -200,15 +200,15 @@ module _ (D : Device) (now : ℕ) (ks : List Task) (raw : List ℕ) (v : Finding
   }
 
   -- where nothing does, the table sorted stands for the slots
-  module _ (e : (deviceFits D && leb now 2000000000 && v .sound) ≡ true) {rows : List ℕ} (s : InOrder (v .count) raw rows) where
-    passed : T (deviceFits D && leb now 2000000000 && v .sound)
+  module _ (e : (deviceFits D && leb now lastInstant && v .sound) ≡ true) {rows : List ℕ} (s : InOrder (v .count) raw rows) where
+    passed : T (deviceFits D && leb now lastInstant && v .sound)
     passed = rw e tt
 
-    fits : T (deviceFits D && leb now 2000000000)
-    fits = and-l (deviceFits D && leb now 2000000000) (v .sound) passed
+    fits : T (deviceFits D && leb now lastInstant)
+    fits = and-l (deviceFits D && leb now lastInstant) (v .sound) passed
 
     good : T (all? (slotSound D now) ks)
-    good = subst T (o .sound) (and-r (deviceFits D && leb now 2000000000) (v .sound) passed)
+    good = subst T (o .sound) (and-r (deviceFits D && leb now lastInstant) (v .sound) passed)
 
     stands : Stands 64 ks (v .count) rows
     stands = exchanged-stands (o .stands good) (s .exchanged)
@@ -216,7 +216,7 @@ module _ (D : Device) (now : ℕ) (ks : List Task) (raw : List ℕ) (v : Finding
     pub sorted-device : OnDevice 256 (v .count) rows
     sorted-device =
         on-widest D now ks (v .count) rows stands good
-        (within-out 1 256 (D .columns) (and-l (within 1 256 (D .columns)) (within 1 1024 (D .rows)) (and-l (deviceFits D) (leb now 2000000000) fits)) .high)
+        (within-out 1 256 (D .columns) (and-l (within 1 256 (D .columns)) (within 1 1024 (D .rows)) (and-l (deviceFits D) (leb now lastInstant) fits)) .high)
 
     -- and by the pairs
     pub tested-pairs : {differ apart : Bool} → differ ≡ pairwise? (λ i j. not (eqb (idAt rows i) (idAt rows j))) (range 0 (v .count)) → Judged (v .count) rows apart
@@ -233,5 +233,5 @@ module _ (D : Device) (now : ℕ) (ks : List Task) (raw : List ℕ) (v : Finding
       where
         found : (differ && apart) ≡ sound D now ks
         found =
-            rw (is-true (deviceFits D && leb now 2000000000) fits, o .slots, is-true (all? (slotSound D now) ks) good)
+            rw (is-true (deviceFits D && leb now lastInstant) fits, o .slots, is-true (all? (slotSound D now) ks) good)
             (pairs-same D now ks (v .count) rows stands good d q)

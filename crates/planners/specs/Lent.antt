@@ -2,6 +2,7 @@
 use Prim.Native.Nat.{ℕ, _+_, _≤_}
 use mathlib.Core.Option.{Option, none, some}
 use Rattle.tasks.specs.declared.Submission.{Submission}
+use Rattle.tasks.specs.Numbers.{lastInstant}
 use Rattle.planners.specs.declared.Found.{Found}
 use Rattle.planners.specs.declared.Found.the-variants.{Nothing, At}
 use Rattle.planners.specs.declared.Window.{Window}
@@ -18,7 +19,7 @@ pub record Fits (q : Window) : Type 0 where
   pub columns : q .w ≤ q .width
   pub long : 1 ≤ q .e
   pub in-time : q .clock + q .e ≤ q .d
-  pub until : q .d ≤ 2000000000
+  pub until : q .d ≤ lastInstant
 
 -- a submission by what a planner reads of it
 abbrev pub asked : ℕ → ℕ → ℕ → Submission

@@ -15,7 +15,7 @@ use Rattle.lists.proofs.Append.{put-index}
 use Rattle.lists.proofs.Order.{Sorted, empty, next, sorted-keep}
 use Rattle.tasks.specs.declared.Task.{Task}
 use Rattle.tasks.specs.declared.Submission.{Submission}
-use Rattle.tasks.specs.Numbers.{device, deviceFits}
+use Rattle.tasks.specs.Numbers.{device, deviceFits, largestId}
 use Rattle.tasks.specs.Tasks.{finish, live, waitingPhase, phaseAt, stamped, freeSlot, booked}
 use Rattle.tasks.proofs.Laws.{Share, is-waiting}
 use Rattle.ways.specs.Ways.{pair}
@@ -73,7 +73,7 @@ twice i j k = refl
 -- an id fits its field
 pub data Named : Event → Type 0 where
   new : (W H : ℕ) → Named (NewBoard W H)
-  submit : (n : ℕ) (a : Submission) → a .id ≤ 4294967295 → Named (Submit n a)
+  submit : (n : ℕ) (a : Submission) → a .id ≤ largestId → Named (Submit n a)
   clock : (i : ℕ) → Named (Clock i)
   withdraw : (n : ℕ) → Named (Withdraw n)
 
@@ -100,7 +100,7 @@ after-clock b i k (inr m) q (no d) =
     (in-map (stamped i) (in-keep (λ x. ltb i (finish x)) m (lt→ltb i (finish k) (omega arith))))))
 
 -- a promise more
-after-place : (b : Board) (ks : List Task) → Honest b ks → SoundBoard b → (n : ℕ) (a : Submission) → a .id ≤ 4294967295 → (c t f : ℕ)
+after-place : (b : Board) (ks : List Task) → Honest b ks → SoundBoard b → (n : ℕ) (a : Submission) → a .id ≤ largestId → (c t f : ℕ)
     → submitted b n a .answer ≡ Placed c t f → Honest (submitted b n a .board) (booked (b .now) a t c ∷ ks)
 unfolding booked stamped
 after-place b ks o s n a i c t f e =
@@ -253,7 +253,7 @@ module _ (b : Board) (ks : List Task) (o : Honest b ks) where
             on-clock k x h d = after-clock b i k x h d
 
     -- A SUBMISSION
-    honest-submit : (n : ℕ) (a : Submission) → a .id ≤ 4294967295 → Honest (outcome (withBoard firstState b) (Submit n a) .state .board) (ledgerAfter (withBoard firstState b) ks (Submit n a))
+    honest-submit : (n : ℕ) (a : Submission) → a .id ≤ largestId → Honest (outcome (withBoard firstState b) (Submit n a) .state .board) (ledgerAfter (withBoard firstState b) ks (Submit n a))
     unfolding outcome ledgerAfter
     honest-submit n a i = go (submitted b n a .answer) refl
       where

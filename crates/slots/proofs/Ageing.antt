@@ -17,6 +17,7 @@ use Rattle.tasks.specs.declared.Device.{Device}
 use Rattle.tasks.specs.declared.Task.{Task}
 use Rattle.tasks.specs.Tasks.{finish, phaseAt, live, inPhase, stamped, freeSlot}
 use Rattle.tasks.proofs.Laws.{phase-waiting, phase-running}
+use Rattle.tasks.specs.Numbers.{lastInstant}
 use Rattle.slots.specs.Slots.{liveIn, agedTo, allAgedTo}
 use Rattle.slots.proofs.Soundness.{InPhase, running, waiting, SoundTask, Together, Sound}
 
@@ -70,7 +71,7 @@ live-aged i (k ∷ ks) = step (live-aged i ks) (bool (live k)) (decLe (finish k)
         rw (aged-stands i k t l, keep-yes live (stamped i k) (allAgedTo i ks) (stamped-live i k l), keep-yes live k ks t, keep-yes now? k (liveIn ks) (rw (lt-ltb i (finish k) l) tt), e)
 
 -- A SOUND BOARD STAYS SOUND UNDER THE CLOCK
-pub aged-sound : (D : Device) (now i : ℕ) (ks : List Task) → Sound D now ks → now ≤ i → i ≤ 2000000000 → Sound D i (allAgedTo i ks)
+pub aged-sound : (D : Device) (now i : ℕ) (ks : List Task) → Sound D now ks → now ≤ i → i ≤ lastInstant → Sound D i (allAgedTo i ks)
 unfolding allAgedTo
 aged-sound D now i ks s l h = record {
   columns = s .columns;

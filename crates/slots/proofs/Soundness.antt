@@ -16,6 +16,7 @@ use Rattle.tasks.specs.declared.Device.{Device}
 use Rattle.tasks.specs.declared.Task.{Task}
 use Rattle.tasks.specs.Tasks.{finish, meets, livePhase, samePhase, phaseAt, live, freeSlot, zeros}
 use Rattle.tasks.proofs.Laws.{Between, within-out, within-in, Share, meets-share, share-meets, share-sym, zeros-free, phase-waiting, phase-running, is-waiting, is-running}
+use Rattle.tasks.specs.Numbers.{largestId, lastInstant, longest}
 use Rattle.slots.specs.Slots.{liveIn, taskSound, slotSound, together, sound}
 
 -- running exactly if its start is ≤ now, and otherwise waiting
@@ -25,11 +26,11 @@ pub data InPhase (now : ℕ) (k : Task) : Type 0 where
 
 -- A SOUND LIVE TASK of a device at now
 pub record SoundTask (D : Device) (now : ℕ) (k : Task) : Type 0 where
-  pub id : Between 1 4294967295 (k .id)
+  pub id : Between 1 largestId (k .id)
   pub w : Between 1 (D .columns) (k .w)
   pub h : Between 1 (D .rows) (k .h)
-  pub e : Between 1 1000000 (k .e)
-  pub d : k .d ≤ 2000000000
+  pub e : Between 1 longest (k .e)
+  pub d : k .d ≤ lastInstant
   pub from-one : 1 ≤ k .column
   pub on-device : k .column + k .w ≤ suc (D .columns)
   pub in-time : k .start + k .e ≤ k .d
@@ -45,7 +46,7 @@ pub record Together (k l : Task) : Type 0 where
 pub record Sound (D : Device) (now : ℕ) (ks : List Task) : Type 0 where
   pub columns : Between 1 256 (D .columns)
   pub rows : Between 1 1024 (D .rows)
-  pub clock : now ≤ 2000000000
+  pub clock : now ≤ lastInstant
   pub slots : length ks ≡ 64
   pub tasks : (k : Task) → k ∈ ks → T (live k) → SoundTask D now k
   pub free : (k : Task) → k ∈ ks → T (not (live k)) → k ≡ freeSlot
@@ -71,11 +72,11 @@ in-phase-live now k (waiting e h) = rw e tt
 pub task-out : (D : Device) (now : ℕ) (k : Task) → T (live k) → T (taskSound D now k) → SoundTask D now k
 unfolding taskSound
 task-out D now k l s = record {
-  id = within-out 1 4294967295 (k .id) (search (and-l, and-r) depth 12);
+  id = within-out 1 largestId (k .id) (search (and-l, and-r) depth 12);
   w = within-out 1 (D .columns) (k .w) (search (and-l, and-r) depth 12);
   h = within-out 1 (D .rows) (k .h) (search (and-l, and-r) depth 12);
-  e = within-out 1 1000000 (k .e) (search (and-l, and-r) depth 12);
-  d = leb→le (k .d) 2000000000 (search (and-l, and-r) depth 12);
+  e = within-out 1 longest (k .e) (search (and-l, and-r) depth 12);
+  d = leb→le (k .d) lastInstant (search (and-l, and-r) depth 12);
   from-one = leb→le 1 (k .column) (search (and-l, and-r) depth 12);
   on-device = leb→le (k .column + k .w) (suc (D .columns)) (search (and-l, and-r) depth 12);
   in-time = leb→le (finish k) (k .d) (search (and-l, and-r) depth 12);
@@ -130,7 +131,7 @@ unfolding sound slotSound
 sound-out D now ks s = record {
   columns = within-out 1 256 (D .columns) (search (and-l, and-r) depth 12);
   rows = within-out 1 1024 (D .rows) (search (and-l, and-r) depth 12);
-  clock = leb→le now 2000000000 (search (and-l, and-r) depth 12);
+  clock = leb→le now lastInstant (search (and-l, and-r) depth 12);
   slots = eqb→eq (length ks) 64 (search (and-l, and-r) depth 12);
   tasks = λ k m l. task-out D now k l (rw (is-true (live k) l) at (each k m));
   free = λ k m l. zeros-free k (rw (is-false (live k) l) at (each k m)) (ended (k .phase) l);

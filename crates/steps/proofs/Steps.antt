@@ -16,7 +16,7 @@ use Rattle.lists.proofs.Order.{sorted-at}
 use Rattle.tasks.specs.declared.Device.{Device}
 use Rattle.tasks.specs.declared.Task.{Task}
 use Rattle.tasks.specs.declared.Submission.{Submission}
-use Rattle.tasks.specs.Numbers.{device, deviceFits}
+use Rattle.tasks.specs.Numbers.{device, deviceFits, largestId, lastInstant}
 use Rattle.tasks.specs.Tasks.{live, waitingPhase, phaseAt, stamped, freeSlot, booked}
 use Rattle.words.specs.Words.{bit, Least}
 use Rattle.words.proofs.Digits.{bit-of-zero}
@@ -137,14 +137,14 @@ module _ (d : Brief) (ks : List Task) {rows masks : List ℕ} (k : Keeps d ks ro
     clock-refused i e h = ap (λ x. record { answer = bare (x .number); state = withBoard (stateOf ks d) (x .board) }) (clocked-refused b i good e h)
 
     -- an instant that is not refused
-    pub clock-allowed : (i : ℕ) {r : ℕ} → r ≡ refusal (instantTests (d .clock) i) → r ≡ 0 → (d .clock ≤ i) × (i ≤ 2000000000)
+    pub clock-allowed : (i : ℕ) {r : ℕ} → r ≡ refusal (instantTests (d .clock) i) → r ≡ 0 → (d .clock ≤ i) × (i ≤ lastInstant)
     clock-allowed i e z =
         let r11 = none-holds 11 _ _ (omega arith) (sym e ∙ z) in
         let r12 = none-holds 12 _ _ (omega arith) (r11 .1) in
-        (nltb→le i (d .clock) (r11 .0), nltb→le 2000000000 i (r12 .0))
+        (nltb→le i (d .clock) (r11 .0), nltb→le lastInstant i (r12 .0))
 
     -- THE CLOCK
-    pub step-clock : (i : ℕ) → d .clock ≤ i → i ≤ 2000000000 → {count : ℕ} → After rows (d .count) i count → (used : ℕ)
+    pub step-clock : (i : ℕ) → d .clock ≤ i → i ≤ lastInstant → {count : ℕ} → After rows (d .count) i count → (used : ℕ)
         → ((j : ℕ) → j < 64 → bit used j ≡ (bit (d .used) j && not (some? (λ (p : ℕ). eqb j (slotAt rows p)) (range count (d .count - count)))))
         → Follows d ks (outcome (stateOf ks d) (Clock i)) (numbered 0 (withLive d i count used) Nothing) rows masks
     unfolding outcome boardAt changed
@@ -328,7 +328,7 @@ module _ (d : Brief) (ks : List Task) {rows masks : List ℕ} (k : Keeps d ks ro
       pub has-room : d .count < 64
       has-room = room table (books .inside) unused
 
-      pub step-placed : a .id ≤ 4294967295 → (x : Task) → x ≡ booked (d .clock) a t c → {next words : List ℕ} → Inserted (d .count) free x rows masks next words → (used : ℕ)
+      pub step-placed : a .id ≤ largestId → (x : Task) → x ≡ booked (d .clock) a t c → {next words : List ℕ} → Inserted (d .count) free x rows masks next words → (used : ℕ)
           → ((j : ℕ) → j < 64 → bit used j ≡ (bit (d .used) j || eqb j free))
           → Follows d ks (outcome (stateOf ks d) (Submit n a)) (placedAt c t e (withLive d (d .clock) (d .count + 1) used) (Booked free x)) next words
       unfolding outcome told changed

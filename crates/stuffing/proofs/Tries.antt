@@ -16,6 +16,7 @@ use Rattle.ways.specs.Ways.{pair, isOpen}
 use Rattle.tasks.specs.declared.Task.{Task}
 use Rattle.tasks.specs.declared.Submission.{Submission}
 use Rattle.tasks.specs.Tasks.{finish, meets, stamped, booked}
+use Rattle.tasks.specs.Numbers.{lastInstant}
 use Rattle.columns.specs.Columns.{columns, Run, runs, bestFit, key, leftOf}
 use Rattle.columns.proofs.Runs.{Lies, runs-lie}
 use Rattle.columns.proofs.BestFit.{best-rising, fit-in, in-fit, key-left, key-counts}
@@ -153,6 +154,6 @@ module _ (W now n : ℕ) (live : List ℕ) (o : OnDevice W n live) (w e d : ℕ)
   stuffs-none {t} {u} v q x h g = sym (ap foundOf (visits-none W now ts (asked w e d) (candidates W now ts (asked w e d)) (map finish ts) v q (not-before o x) (omega arith)))
 
   pub stuffs-on : {t u : ℕ} → Stuffs W now ts w e d t → candidates W now ts (asked w e d) t ≡ [] → NextFinish live n t u
-      → u ≤ d - e → e ≤ d → d ≤ 2000000000 → Stuffs W now ts w e d u
+      → u ≤ d - e → e ≤ d → d ≤ lastInstant → Stuffs W now ts w e d u
   stuffs-on {t} {u} v q x h g k =
       visits-on W now ts (asked w e d) (candidates W now ts (asked w e d)) (map finish ts) v q (not-before o x) (next-time o x (omega arith)) (x .after) (omega arith)
