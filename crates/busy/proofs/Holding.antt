@@ -12,7 +12,7 @@ use Rattle.lists.proofs.Append.{keep-append, keep-agree, some-more}
 use Rattle.tasks.specs.Tasks.{holds}
 use Rattle.tasks.proofs.Laws.{holds-out}
 use Rattle.columns.specs.Columns.{columns}
-use Rattle.live.specs.Live.{startAt, finishAt, leftAt, pastAt, OnDevice, taskAt, tasksOf}
+use Rattle.live.specs.Live.{fromAt, finishAt, leftAt, pastAt, OnDevice, taskAt, tasksOf}
 use Rattle.planners.proofs.Lent.{tasks-more, task-in, holds-at}
 use Rattle.words.specs.Words.{column}
 use Rattle.words.proofs.Columns.{noWords, column-none}
@@ -41,7 +41,7 @@ module _ (live : List ℕ) (t : ℕ) where
 
   module _ {W m : ℕ} (o : OnDevice W m live) {words : List ℕ} {n : ℕ} (h : n < m) (g : HeldBy words n) where
     -- ONE TASK MORE that holds its columns at t
-    pub held-marked : (more : List ℕ) → (leb (startAt live n) t && ltb t (finishAt live n)) ≡ true
+    pub held-marked : (more : List ℕ) → (leb (fromAt live n) t && ltb t (finishAt live n)) ≡ true
         → ((c : ℕ) → 1 ≤ c → c ≤ 256 → column more c ≡ (column words c || (leb (leftAt live n) c && ltb c (pastAt live n)))) → HeldBy more (n + 1)
     held-marked more e k = record { same = λ c p q. marked c p q }
       where
@@ -51,7 +51,7 @@ module _ (live : List ℕ) (t : ℕ) where
             ∙ sym (held-more n c ∙ ap (λ b. some? (holds t c) (tasksOf n live) || b) (holds-at o n h t c ∙ ap (λ b. b && (leb (leftAt live n) c && ltb c (pastAt live n))) e))
 
     -- ONE TASK MORE that does not
-    pub held-passed : (leb (startAt live n) t && ltb t (finishAt live n)) ≡ false → HeldBy words (n + 1)
+    pub held-passed : (leb (fromAt live n) t && ltb t (finishAt live n)) ≡ false → HeldBy words (n + 1)
     held-passed e = record { same = λ c p q. passed c p q }
       where
         passed : (c : ℕ) → 1 ≤ c → c ≤ 256 → column words c ≡ some? (holds t c) (tasksOf (n + 1) live)

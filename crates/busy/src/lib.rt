@@ -16,7 +16,7 @@ fn held(live: &Live, count: usize, width: u32, instant: u32) -> [u64; 4]
     let mut words = [0u64; 4];
     let mut i: usize = 0;
     while i < count {
-        if (live[live::START + i] <= instant) & (instant < live[live::FINISH + i]) {
+        if (live[live::FROM + i] <= instant) & (instant < live[live::FINISH + i]) {
             let more = words::marked(words, live[live::LEFT + i], live[live::PAST + i]);
             words = more;
         }

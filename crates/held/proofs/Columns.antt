@@ -15,7 +15,7 @@ use Rattle.lists.proofs.Append.{some-same, some-map, some-range-more}
 use Rattle.lists.proofs.Members.{range-in}
 use Rattle.tasks.specs.Tasks.{covers}
 use Rattle.tasks.proofs.Laws.{overlap-either}
-use Rattle.live.specs.Live.{at, startAt, finishAt, leftAt, pastAt, taskAt, tasksOf, OnDevice, After, Lent}
+use Rattle.live.specs.Live.{at, fromAt, finishAt, leftAt, pastAt, taskAt, tasksOf, OnDevice, After, Lent}
 use Rattle.live.proofs.Laws.{after-stays, some-after}
 use Rattle.words.specs.Words.{bit}
 use Rattle.words.proofs.Digits.{bit-or, bit-and, bit-ones, bit-of-zero}
@@ -48,7 +48,7 @@ module _ {live m : List ℕ} {end k word : ℕ} where
   word-none = record { digits = λ j h. sym (or-false (bit word j)) }
 
   -- ONE TASK MORE in a word, which has v of it; `mask` is all ones where it starts before `end`
-  pub word-more : {i held v : ℕ} (mask : ℕ) → HeldWord live m end k i word held → ((j : ℕ) → j < 64 → bit mask j ≡ ltb (startAt live i) end) → v ≡ at k m i
+  pub word-more : {i held v : ℕ} (mask : ℕ) → HeldWord live m end k i word held → ((j : ℕ) → j < 64 → bit mask j ≡ ltb (fromAt live i) end) → v ≡ at k m i
       → HeldWord live m end k (i + 1) word (bitOr held (bitAnd mask v))
   word-more {i} {held} {v} mask h g z = record {
     digits = λ j u.
@@ -64,13 +64,13 @@ module _ (W count n : ℕ) (live m : List ℕ) (t e : ℕ) (h : 1 ≤ e) (k : Le
 
   -- a task is in the way of a column exactly if it has not finished, starts before the end of the stay, and has the column
   in-way : (c i : ℕ) → i < count
-      → inStay t e c (taskAt live i) ≡ ((ltb t (finishAt live i) && ltb (startAt live i) (t + e)) && (leb (leftAt live i) c && ltb c (pastAt live i)))
+      → inStay t e c (taskAt live i) ≡ ((ltb t (finishAt live i) && ltb (fromAt live i) (t + e)) && (leb (leftAt live i) c && ltb c (pastAt live i)))
   unfolding inStay covers o
   in-way c i v =
-      let x : startAt live i + (finishAt live i - startAt live i) ≡ finishAt live i = omega (arith, o .ticks i v) in
+      let x : fromAt live i + (finishAt live i - fromAt live i) ≡ finishAt live i = omega (arith, o .ticks i v) in
       let y : leftAt live i + (pastAt live i - leftAt live i) ≡ pastAt live i = omega (arith, o .columns i v) in
-      let z : startAt live i < startAt live i + (finishAt live i - startAt live i) = omega (arith, o .ticks i v) in
-      ap₂ _&&_ (overlap-either t (t + e) (startAt live i) (startAt live i + (finishAt live i - startAt live i)) (omega arith) z ∙ ap (λ b. ltb t b && ltb (startAt live i) (t + e)) x)
+      let z : fromAt live i < fromAt live i + (finishAt live i - fromAt live i) = omega (arith, o .ticks i v) in
+      ap₂ _&&_ (overlap-either t (t + e) (fromAt live i) (fromAt live i + (finishAt live i - fromAt live i)) (omega arith) z ∙ ap (λ b. ltb t b && ltb (fromAt live i) (t + e)) x)
       (ap (λ b. leb (leftAt live i) c && ltb c b) y)
 
   -- of the first ones: if its word has the digit
@@ -78,8 +78,8 @@ module _ (W count n : ℕ) (live m : List ℕ) (t e : ℕ) (h : 1 ≤ e) (k : Le
   same-task q j i p u v =
       let w : i < count = omega (arith, a .few) in
       let b : ltb t (finishAt live i) ≡ true = lt-ltb t (finishAt live i) (after-stays (k .falling) a i v) in
-      ap (λ x. ltb (startAt live i) (t + e) && x) (k .masked .share q i j p w u)
-      ∙ sym (in-way (q * 64 + 1 + j) i w ∙ ap (λ x. (x && ltb (startAt live i) (t + e)) && (leb (leftAt live i) (q * 64 + 1 + j) && ltb (q * 64 + 1 + j) (pastAt live i))) b)
+      ap (λ x. ltb (fromAt live i) (t + e) && x) (k .masked .share q i j p w u)
+      ∙ sym (in-way (q * 64 + 1 + j) i w ∙ ap (λ x. (x && ltb (fromAt live i) (t + e)) && (leb (leftAt live i) (q * 64 + 1 + j) && ltb (q * 64 + 1 + j) (pastAt live i))) b)
 
   same-tasks : (q j : ℕ) → q < 4 → j < 64 → some? (inWord live m (t + e) q j) (range 0 n) ≡ some? (inStay t e (q * 64 + 1 + j)) (tasksOf count live)
   unfolding tasksOf
@@ -89,7 +89,7 @@ module _ (W count n : ℕ) (live m : List ℕ) (t e : ℕ) (h : 1 ≤ e) (k : Le
       ∙ sym (some-map (inStay t e c) (taskAt live) (range 0 n))
       ∙ sym (some-after live (inStay t e c) count n (a .few) (λ i l b.
       let z : ltb t (finishAt live i) ≡ false = le-ltb t (finishAt live i) (a .ended i l b) in
-      in-way c i b ∙ ap (λ x. (x && ltb (startAt live i) (t + e)) && (leb (leftAt live i) c && ltb c (pastAt live i))) z))
+      in-way c i b ∙ ap (λ x. (x && ltb (fromAt live i) (t + e)) && (leb (leftAt live i) c && ltb c (pastAt live i))) z))
 
   -- THE COLUMNS OF THE INSTANT: each word has those of the tasks, or lies past the width
   pub words-held : (edge words : List ℕ) → Edge W edge

@@ -15,7 +15,7 @@ use Rattle.ways.specs.Ways.{pair}
 use Rattle.tasks.specs.declared.Task.{Task}
 use Rattle.tasks.specs.Tasks.{from, finish, overlap, covers}
 use Rattle.tasks.proofs.Laws.{overlap-common, common-overlap, covers-in, covers-out}
-use Rattle.live.specs.Live.{startAt, finishAt, taskAt, tasksOf, OnDevice, After, NextFinish}
+use Rattle.live.specs.Live.{fromAt, finishAt, taskAt, tasksOf, OnDevice, After, NextFinish}
 use Rattle.planners.specs.Lent.{asked}
 use Rattle.planners.proofs.Openings.{Opening}
 use Rattle.words.specs.Words.{column}
@@ -74,7 +74,7 @@ next-of W n live o b u m y =
     let j = map-in (taskAt live) (range 0 n) m in
     let i : ℕ = j .0 in
     let a : i < n = omega (arith, range-in 0 n (j .1) .high) in
-    let v : startAt live i + (finishAt live i - startAt live i) ≡ finishAt live i = omega (arith, o .ticks i a) in
+    let v : fromAt live i + (finishAt live i - fromAt live i) ≡ finishAt live i = omega (arith, o .ticks i a) in
     let q : finish u ≡ finishAt live i = ap finish (j .2) ∙ v in
     rw q (b .least i a (rw q at y))
 
@@ -91,7 +91,7 @@ held-lasts W n live o t e x k b words h v p q c y z =
     each : (i : ℕ) → i ∈ range 0 n → inStay t e c (taskAt live i) ≡ inStay v e c (taskAt live i)
     each i m =
         let j : i < n = omega (arith, range-in 0 n m .high) in
-        ap (λ u. u && covers c (taskAt live i)) (in-time (startAt live i) (finishAt live i) (o .ticks i j) (b .finishes i j) (b .starts i j))
+        ap (λ u. u && covers c (taskAt live i)) (in-time (fromAt live i) (finishAt live i) (o .ticks i j) (b .finishes i j) (b .starts i j))
       where
         -- a task is in the stay from t on exactly if it is in the stay from v on
         in-time : (a g : ℕ) → a < g → (t < g → x ≤ g) → (t < g → t + e ≤ a → x + e ≤ a + 1) → overlap t (t + e) a (a + (g - a)) ≡ overlap v (v + e) a (a + (g - a))

@@ -7,7 +7,7 @@ use lib.Dec.{ltb}
 use Rattle.lists.specs.Lists.{some?, range}
 use Rattle.tasks.specs.declared.Task.{Task}
 use Rattle.tasks.specs.Tasks.{from, finish, overlap, covers}
-use Rattle.live.specs.Live.{at, startAt, finishAt}
+use Rattle.live.specs.Live.{at, fromAt, finishAt}
 use Rattle.words.specs.Words.{bit, column}
 
 -- the task holds column c at one of the e ticks from t on
@@ -16,7 +16,7 @@ inStay t e c u = overlap t (t + e) (from u) (finish u) && covers c u
 
 -- task i starts before `end`, and has digit j of word k
 abbrev pub inWord : List ℕ → List ℕ → ℕ → ℕ → ℕ → ℕ → Bool
-inWord live masks end k j i = ltb (startAt live i) end && bit (at k masks i) j
+inWord live masks end k j i = ltb (fromAt live i) end && bit (at k masks i) j
 
 -- r is `word` with the columns of word k of the first n tasks that start before `end`
 pub record HeldWord (live masks : List ℕ) (end k n word r : ℕ) : Type 0 where
@@ -45,4 +45,4 @@ pub record FirstFree (words : List ℕ) (from w r : ℕ) : Type 0 where
 pub record Unchanged (live : List ℕ) (n t e r : ℕ) : Type 0 where
   pub after : t < r
   pub finishes : (i : ℕ) → i < n → t < finishAt live i → r ≤ finishAt live i
-  pub starts : (i : ℕ) → i < n → t < finishAt live i → t + e ≤ startAt live i → r + e ≤ startAt live i + 1
+  pub starts : (i : ℕ) → i < n → t < finishAt live i → t + e ≤ fromAt live i → r + e ≤ fromAt live i + 1

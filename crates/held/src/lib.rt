@@ -32,7 +32,7 @@ fn held_word<'a>(live: &'a Live, masks: &'a Masks, n: usize, end: u32, word: u64
     let mut held = word;
     let mut i: usize = 0;
     while i < n {
-        held = held | (all_if(live[live::START + i] < end) & masks[i]);
+        held = held | (all_if(live[live::FROM + i] < end) & masks[i]);
         i += 1;
     }
     held
@@ -49,7 +49,7 @@ fn held_four<'a>(live: &'a Live, masks: &'a Masks, edge: [u64; 4], n: usize, end
     let mut d = edge[3];
     let mut i: usize = 0;
     while i < n {
-        let on = all_if(live[live::START + i] < end);
+        let on = all_if(live[live::FROM + i] < end);
         a = a | (on & masks[i]);
         b = b | (on & masks[64 + i]);
         c = c | (on & masks[128 + i]);
@@ -113,10 +113,7 @@ pub fn next_change(live: &Live, n: usize, t: u32, e: u32) -> u32
     let mut best: u32 = lists::NONE - from;
     let mut i: usize = 0;
     while i < n {
-        best = lists::lesser(
-            std::num::wrapping_sub_u32(live[live::START + i], stay),
-            best,
-        );
+        best = lists::lesser(std::num::wrapping_sub_u32(live[live::FROM + i], stay), best);
         i += 1;
     }
     lists::lesser(from + best, live::next_finish(live, n))

@@ -19,7 +19,7 @@ use Rattle.tasks.specs.Tasks.{meets, live, freeSlot}
 use Rattle.tasks.proofs.Laws.{meets-share}
 use Rattle.slots.specs.Slots.{liveIn, sound, named, known}
 use Rattle.slots.proofs.Soundness.{SoundTask, Together, together-sym, Sound, sound-out}
-use Rattle.live.specs.Live.{startAt, finishAt, leftAt, pastAt, idAt, slotAt, number, taskAt, bare, tasksOf, OnDevice, Apart, Masked, Lent, LentTo}
+use Rattle.live.specs.Live.{fromAt, finishAt, leftAt, pastAt, idAt, slotAt, number, taskAt, bare, tasksOf, OnDevice, Apart, Masked, Lent, LentTo}
 use Rattle.live.specs.Kept.{Entry, Stands, Kept}
 
 -- THE NUMBERS OF AN ENTRY are those of its task
@@ -27,7 +27,7 @@ module _ {ks : List Task} {rows : List ℕ} {i : ℕ} (e : Entry ks rows i) wher
   abbrev its : Task
   its = getD ks (slotAt rows i) freeSlot
 
-  entry-start : startAt rows i ≡ its .start
+  entry-start : fromAt rows i ≡ its .start
   unfolding number
   entry-start = e .numbers 0 (omega arith)
 
@@ -49,7 +49,7 @@ module _ {ks : List Task} {rows : List ℕ} {i : ℕ} (e : Entry ks rows i) wher
 
   pub entry-task : taskAt rows i ≡ bare its
   entry-task =
-      let x : finishAt rows i - startAt rows i ≡ its .e = omega (arith, entry-start, entry-finish) in
+      let x : finishAt rows i - fromAt rows i ≡ its .e = omega (arith, entry-start, entry-finish) in
       let y : pastAt rows i - leftAt rows i ≡ its .w = omega (arith, entry-left, entry-past) in
       λ j. record { id = 0; e = x j; d = 0; start = entry-start j; w = y j; h = 0; column = entry-left j; phase = Ended }
 
@@ -82,7 +82,7 @@ module _ (D : Device) (now : ℕ) (ks : List Task) (n : ℕ) (rows : List ℕ) (
 
   -- its numbers
   module _ (i : ℕ) (h : i < n) where
-    pub start-at : startAt rows i ≡ task i .start
+    pub start-at : fromAt rows i ≡ task i .start
     start-at = entry-start (o .each i h)
 
     pub id-at : idAt rows i ≡ task i .id

@@ -9,7 +9,7 @@ use lib.ListN.{length, getD, set}
 use Rattle.lists.specs.Lists.{range, never}
 use Rattle.tasks.specs.declared.Phase.the-variants.{Ended}
 use Rattle.tasks.specs.declared.Task.{Task}
-use Rattle.tasks.specs.Tasks.{finish, meets}
+use Rattle.tasks.specs.Tasks.{from, finish, past, meets}
 use Rattle.tasks.specs.Numbers.{lastInstant}
 use Rattle.words.specs.Words.{bit}
 
@@ -18,8 +18,9 @@ abbrev pub at : ℕ → List ℕ → ℕ → ℕ
 at r table i = getD table (r * 64 + i) 0
 
 module _ (live : List ℕ) (i : ℕ) where
-  abbrev pub startAt : ℕ
-  startAt = at 0 live i
+  -- the first tick that it holds, and its finish
+  abbrev pub fromAt : ℕ
+  fromAt = at 0 live i
 
   abbrev pub finishAt : ℕ
   finishAt = at 1 live i
@@ -41,9 +42,9 @@ module _ (live : List ℕ) (i : ℕ) where
   abbrev pub taskAt : Task
   taskAt = record {
     id = 0;
-    e = finishAt - startAt;
+    e = finishAt - fromAt;
     d = 0;
-    start = startAt;
+    start = fromAt;
     w = pastAt - leftAt;
     h = 0;
     column = leftAt;
@@ -65,7 +66,7 @@ pub record OnDevice (W n : ℕ) (live : List ℕ) : Type 0 where
   pub from : (i : ℕ) → i < n → 1 ≤ leftAt live i
   pub columns : (i : ℕ) → i < n → leftAt live i < pastAt live i
   pub past : (i : ℕ) → i < n → pastAt live i ≤ suc W
-  pub ticks : (i : ℕ) → i < n → startAt live i < finishAt live i
+  pub ticks : (i : ℕ) → i < n → fromAt live i < finishAt live i
   pub until : (i : ℕ) → i < n → finishAt live i ≤ lastInstant
 
 -- the last to finish stands first
@@ -109,10 +110,10 @@ pub record NextFinish (live : List ℕ) (n t r : ℕ) : Type 0 where
 
 -- the number of row r for a task that stands in a slot
 unfoldable pub number : ℕ → ℕ → Task → ℕ
-number zero slot k = k .start
+number zero slot k = from k
 number (suc zero) slot k = finish k
 number (suc (suc zero)) slot k = k .column
-number (suc (suc (suc zero))) slot k = k .column + k .w
+number (suc (suc (suc zero))) slot k = past k
 number (suc (suc (suc (suc zero)))) slot k = k .id
 number (suc (suc (suc (suc (suc r))))) slot k = slot
 

@@ -10,13 +10,13 @@ ghost use Rattle.lists.specs.Lists.{never};
 ghost use Rattle.words.specs.Words.{bit, Least};
 ghost use Rattle.live.specs.Live.{Falling, After, NextFinish, putFrom, WordsPut};
 
-// Starts, finishes, first columns, first columns past, ids, slots.
+// The first ticks held, finishes, first columns, first columns past, ids, slots.
 pub type Live = [u32; 384];
 
 // The columns of task i: columns 64 k + 1 to 64 k + 64 as the digits of the word at 64 k + i.
 pub type Masks = [u64; 256];
 
-pub const START: usize = 0;
+pub const FROM: usize = 0;
 
 pub const FINISH: usize = 64;
 
@@ -68,7 +68,7 @@ pub fn put(
     requires { ⌜ (i < 64) × (length (now live) ≡ 384) ⌝ }
     ensures { λ _. ⌜ now (live .exit) ≡ putFrom 0 (now (live .entry)) i (start ∷ finish ∷ left ∷ past ∷ id ∷ slot ∷ []) ⌝ }
 {
-    live[START + i] = start;
+    live[FROM + i] = start;
     live[FINISH + i] = finish;
     live[LEFT + i] = left;
     live[PAST + i] = past;
@@ -81,7 +81,7 @@ pub fn put_words(masks: &mut Masks, i: usize, a: u64, b: u64, c: u64, d: u64)
     requires { ⌜ (i < 64) × (length (now masks) ≡ 256) ⌝ }
     ensures { λ _. ⌜ now (masks .exit) ≡ putFrom 0 (now (masks .entry)) i (a ∷ b ∷ c ∷ d ∷ []) ⌝ }
 {
-    masks[START + i] = a;
+    masks[0 + i] = a;
     masks[64 + i] = b;
     masks[128 + i] = c;
     masks[192 + i] = d;

@@ -13,7 +13,7 @@ use Rattle.lists.proofs.Bools.{is-true, is-false}
 use Rattle.tasks.specs.Tasks.{meets}
 use Rattle.tasks.proofs.Laws.{Share, meets-share, share-meets}
 use Rattle.lists.specs.Lists.{never}
-use Rattle.live.specs.Live.{startAt, finishAt, leftAt, pastAt, taskAt, OnDevice, Falling, Apart}
+use Rattle.live.specs.Live.{fromAt, finishAt, leftAt, pastAt, taskAt, OnDevice, Falling, Apart}
 use Rattle.pairs.specs.Pairs.{Clash, Taken, Judged}
 
 -- the columns from left up to c are taken
@@ -97,14 +97,14 @@ pub record Taker (rows : List ℕ) (i c s : ℕ) : Type 0 where
   pub sooner : it < i
   pub from : leftAt rows it ≤ c
   pub to : c < pastAt rows it
-  pub start : startAt rows it ≡ s
+  pub start : fromAt rows it ≡ s
 
 -- after i tasks: none meets another, and the row has of each column the earliest start, that of one of them
 pub record RowTo (n : ℕ) (rows row : List ℕ) (i : ℕ) : Type 0 where
   pub size : length row ≡ 257
   pub upto : i ≤ n
   pub apart : Apart i rows
-  pub lower : (j c : ℕ) → j < i → leftAt rows j ≤ c → c < pastAt rows j → getD row c 0 ≤ startAt rows j
+  pub lower : (j c : ℕ) → j < i → leftAt rows j ≤ c → c < pastAt rows j → getD row c 0 ≤ fromAt rows j
   pub whose : (c : ℕ) → c < 257 → getD row c 0 < never → Taker rows i c (getD row c 0)
 
 pub row-none : (n : ℕ) (rows : List ℕ) → RowTo n rows (replicate 257 never) 0
@@ -117,7 +117,7 @@ row-none n rows = record {
 }
 
 module _ {n : ℕ} {rows : List ℕ} (o : OnDevice 256 n rows) (f : Falling n rows) {row : List ℕ} {i : ℕ} (r : RowTo n rows row i) where
-  module _ (h : i < n) {next : List ℕ} {hits : ℕ} (t : Taken (leftAt rows i) (pastAt rows i) (startAt rows i) (finishAt rows i) row next hits) where
+  module _ (h : i < n) {next : List ℕ} {hits : ℕ} (t : Taken (leftAt rows i) (pastAt rows i) (fromAt rows i) (finishAt rows i) row next hits) where
     -- NO COLUMN OF TASK i CLASHES: it meets none of those before it
     pub row-more : hits ≡ 0 → RowTo n rows next (i + 1)
     row-more z = record {
@@ -140,7 +140,7 @@ module _ {n : ℕ} {rows : List ℕ} (o : OnDevice 256 n rows) (f : Falling n ro
             rw e (is-false (meets (taskAt rows a) (taskAt rows i)) (not-T (meets (taskAt rows a) (taskAt rows i)) (λ w. clear a (omega arith) (meets-share (taskAt rows a) (taskAt rows i) w))))
         apart a b l m (no e) = r .apart a b l (omega arith)
 
-        lower : (j c : ℕ) → j < i + 1 → leftAt rows j ≤ c → c < pastAt rows j → Dec (j ≡ i) → Dec (leftAt rows i ≤ c) → Dec (c < pastAt rows i) → getD next c 0 ≤ startAt rows j
+        lower : (j c : ℕ) → j < i + 1 → leftAt rows j ≤ c → c < pastAt rows j → Dec (j ≡ i) → Dec (leftAt rows i ≤ c) → Dec (c < pastAt rows i) → getD next c 0 ≤ fromAt rows j
         lower j c l p q (yes e) d g = rw e (omega (arith, t .here c (rw e at p) (rw e at q)))
         lower j c l p q (no e) (yes d) (yes g) = omega (arith, t .here c d g, o .ticks i h, t .free z c d g, r .lower j c (omega arith) p q)
         lower j c l p q (no e) (yes d) (no g) = omega (arith, t .behind c (omega arith), r .lower j c (omega arith) p q)
@@ -168,10 +168,10 @@ module _ {n : ℕ} {rows : List ℕ} (o : OnDevice 256 n rows) (f : Falling n ro
         let d = f (k .it) i (omega (arith, k .sooner)) h in
         let x = taskAt rows (k .it) in
         let y = taskAt rows i in
-        let v : startAt rows (k .it) < finishAt rows i = omega (arith, k .start, w .sooner) in
+        let v : fromAt rows (k .it) < finishAt rows i = omega (arith, k .start, w .sooner) in
         let s : Share x y = record {
           column = record { it = w .it; low₁ = k .from; high₁ = omega (arith, k .from, k .to); low₂ = w .from; high₂ = omega (arith, w .from, w .to) };
-          tick = record { it = max (startAt rows (k .it)) (startAt rows i); low₁ = omega arith; high₁ = omega arith; low₂ = omega arith; high₂ = omega arith };
+          tick = record { it = max (fromAt rows (k .it)) (fromAt rows i); low₁ = omega arith; high₁ = omega arith; low₂ = omega arith; high₂ = omega arith };
         } in
         record {
           apart = λ q. absurd (true≢false (sym q));

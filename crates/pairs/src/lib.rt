@@ -75,7 +75,7 @@ fn none_meets(live: &Live, n: usize) -> bool
     while i < n {
         let left = live[live::LEFT + i];
         let past = live[live::PAST + i];
-        let start = live[live::START + i];
+        let start = live[live::FROM + i];
         let finish = live[live::FINISH + i];
         if 0 < take(&mut row, left, past, start, finish) {
             return false;

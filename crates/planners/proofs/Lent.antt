@@ -11,7 +11,7 @@ use Rattle.lists.proofs.Append.{range-more, range-first, some-map}
 use Rattle.tasks.specs.declared.Task.{Task}
 use Rattle.tasks.specs.Tasks.{from, finish, past, holds, covers, overlap}
 use Rattle.tasks.proofs.Laws.{overlap-either}
-use Rattle.live.specs.Live.{startAt, finishAt, leftAt, pastAt, taskAt, tasksOf, OnDevice}
+use Rattle.live.specs.Live.{fromAt, finishAt, leftAt, pastAt, taskAt, tasksOf, OnDevice}
 
 module _ (live : List ℕ) where
   pub tasks-more : (i : ℕ) → tasksOf (i + 1) live ≡ tasksOf i live ++ (taskAt live i ∷ [])
@@ -46,10 +46,10 @@ some-end p i n h = let z : n - i ≡ 0 = omega arith in rw z (unfold some? range
 
 module _ {W n : ℕ} {live : List ℕ} (o : OnDevice W n live) (i : ℕ) (h : i < n) where
   -- what task i holds, by the arrays
-  pub holds-at : (t c : ℕ) → holds t c (taskAt live i) ≡ ((leb (startAt live i) t && ltb t (finishAt live i)) && (leb (leftAt live i) c && ltb c (pastAt live i)))
+  pub holds-at : (t c : ℕ) → holds t c (taskAt live i) ≡ ((leb (fromAt live i) t && ltb t (finishAt live i)) && (leb (leftAt live i) c && ltb c (pastAt live i)))
   unfolding holds covers
   holds-at t c =
-      let x : startAt live i + (finishAt live i - startAt live i) ≡ finishAt live i = omega (arith, o .ticks i h) in
+      let x : fromAt live i + (finishAt live i - fromAt live i) ≡ finishAt live i = omega (arith, o .ticks i h) in
       let y : leftAt live i + (pastAt live i - leftAt live i) ≡ pastAt live i = omega (arith, o .columns i h) in
       rw (x, y)
 
@@ -59,10 +59,10 @@ module _ {W n : ℕ} {live : List ℕ} (o : OnDevice W n live) (i : ℕ) (h : i 
   -- whether task i meets a stay, by the arrays
   pub meets-at : (c w t e : ℕ) → 1 ≤ w → 1 ≤ e
       → (overlap c (c + w) (taskAt live i .column) (past (taskAt live i)) && overlap t (t + e) (from (taskAt live i)) (finish (taskAt live i)))
-      ≡ ((ltb c (pastAt live i) && ltb (leftAt live i) (c + w)) && (ltb t (finishAt live i) && ltb (startAt live i) (t + e)))
+      ≡ ((ltb c (pastAt live i) && ltb (leftAt live i) (c + w)) && (ltb t (finishAt live i) && ltb (fromAt live i) (t + e)))
   meets-at c w t e p q =
-      let x : startAt live i + (finishAt live i - startAt live i) ≡ finishAt live i = omega (arith, o .ticks i h) in
+      let x : fromAt live i + (finishAt live i - fromAt live i) ≡ finishAt live i = omega (arith, o .ticks i h) in
       let y : leftAt live i + (pastAt live i - leftAt live i) ≡ pastAt live i = omega (arith, o .columns i h) in
       let across = overlap-either c (c + w) (leftAt live i) (leftAt live i + (pastAt live i - leftAt live i)) (omega arith) (omega (arith, o .columns i h)) in
-      let along = overlap-either t (t + e) (startAt live i) (startAt live i + (finishAt live i - startAt live i)) (omega arith) (omega (arith, o .ticks i h)) in
+      let along = overlap-either t (t + e) (fromAt live i) (fromAt live i + (finishAt live i - fromAt live i)) (omega arith) (omega (arith, o .ticks i h)) in
       rw (across, along, x, y)

@@ -23,7 +23,7 @@ use Rattle.words.proofs.Digits.{bit-of-zero}
 use Rattle.slots.specs.Slots.{sound, named, known, begunNamed, agedTo, allAgedTo}
 use Rattle.slots.proofs.Soundness.{InPhase, running, waiting, SoundTask, Together, Sound, sound-out, sound-in}
 use Rattle.slots.proofs.Ageing.{aged-free-slot, aged-length, aged-stands, stamped-live, aged-sound, aged-now, aged-twice}
-use Rattle.live.specs.Live.{startAt, idAt, slotAt, Falling, After}
+use Rattle.live.specs.Live.{fromAt, idAt, slotAt, Falling, After}
 use Rattle.live.specs.Kept.{Stands, Kept, Closed, Inserted, InUse, lowestFree}
 use Rattle.live.proofs.Standing.{room, inserted-stands, inserted-falling, inserted-masked, removed-stands, removed-falling, removed-masked, after-stands, after-falling, after-masked, no-tasks}
 use Rattle.live.proofs.InUse.{use-in, in-use-more, in-use-less, in-use-after}
@@ -227,7 +227,7 @@ module _ (d : Brief) (ks : List Task) {rows masks : List ℕ} (k : Keeps d ks ro
       task : SoundTask (d .device) (d .clock) taskThere
       task = stands .tasks taskThere (getD-in ks slot freeSlot (omega (arith, k .slots, inside))) there
 
-      begins : startAt rows p ≡ taskThere .start
+      begins : fromAt rows p ≡ taskThere .start
       begins = start-at (d .device) (d .clock) ks (d .count) rows table good p h
 
       -- it has begun exactly if its start has come
@@ -235,11 +235,11 @@ module _ (d : Brief) (ks : List Task) {rows masks : List ℕ} (k : Keeps d ks ro
       has-begun x (running q w) = rw q (sym (le-leb (x .start) (d .clock) w))
       has-begun x (waiting q w) = rw q (sym (lt-leb (x .start) (d .clock) w))
 
-      begun-at : begunNamed n ks ≡ leb (startAt rows p) (d .clock)
+      begun-at : begunNamed n ks ≡ leb (fromAt rows p) (d .clock)
       begun-at = slot-begun b n slot good slot-is inside ∙ has-begun taskThere (task .phase) ∙ ap (λ x. leb x (d .clock)) (sym begins)
 
       -- WITHDRAWN
-      pub step-withdraw : {r : ℕ} → r ≡ refusal (withdrawTests (ltb p (d .count)) (leb (startAt rows p) (d .clock))) → r ≡ 0
+      pub step-withdraw : {r : ℕ} → r ≡ refusal (withdrawTests (ltb p (d .count)) (leb (fromAt rows p) (d .clock))) → r ≡ 0
           → {next words : List ℕ} → Closed 6 (d .count) p rows next → Closed 4 (d .count) p masks words → (used : ℕ)
           → ((j : ℕ) → j < 64 → bit used j ≡ (bit (d .used) j && not (eqb j slot)))
           → Follows d ks (outcome (stateOf ks d) (Withdraw n)) (numbered 0 (withLive d (d .clock) (d .count - 1) used) (Freed slot)) next words
@@ -278,7 +278,7 @@ module _ (d : Brief) (ks : List Task) {rows masks : List ℕ} (k : Keeps d ks ro
 
     -- 13, 14
     module _ (n p : ℕ) (l : Least (λ (i : ℕ). eqb (idAt rows i) n) 0 (d .count) p) {r : ℕ}
-        (e : r ≡ refusal (withdrawTests (ltb p (d .count)) (leb (startAt rows p) (d .clock)))) where
+        (e : r ≡ refusal (withdrawTests (ltb p (d .count)) (leb (fromAt rows p) (d .clock)))) where
       pub withdraw-refused : 0 < r → outcome (stateOf ks d) (Withdraw n) ≡ record { answer = bare r; state = stateOf ks d }
       unfolding outcome
       withdraw-refused h =

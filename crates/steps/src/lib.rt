@@ -146,7 +146,7 @@ fn withdraw<'a>(live: &'a mut Live, masks: &'a mut Masks, d: Brief, id: u32) -> 
         return bare(1, d, Change::Nothing);
     }
     let i = keeping::find(live, d.count, id);
-    let begun = live[live::START + i] <= d.clock;
+    let begun = live[live::FROM + i] <= d.clock;
     let number = refusals::refuse_withdrawal(i < d.count, begun);
     if 0 < number {
         return bare(number, d, Change::Nothing);

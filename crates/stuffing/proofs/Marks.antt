@@ -18,7 +18,7 @@ use Rattle.tasks.proofs.Laws.{Share, share-meets, Holds, holds-out, holds-in}
 use Rattle.columns.specs.Columns.{columns, Run, runs, key}
 use Rattle.columns.proofs.Runs.{runs-same}
 use Rattle.planners.specs.Planners.{free}
-use Rattle.live.specs.Live.{startAt, leftAt, pastAt, taskAt, tasksOf, OnDevice, Falling, Apart, After}
+use Rattle.live.specs.Live.{fromAt, leftAt, pastAt, taskAt, tasksOf, OnDevice, Falling, Apart, After}
 use Rattle.live.proofs.Laws.{after-stays}
 use Rattle.planners.proofs.Lent.{task-in, in-tasks}
 use Rattle.stuffing.specs.Fit.{Marked, unheld, Stretches, NextFit}
@@ -58,8 +58,8 @@ mark-none live n t {row} e = record {
     zero-row (suc m) (suc k) = zero-row m k
 
 -- where task i is put
-pub put-at : {live : List ℕ} {n i x : ℕ} (t : ℕ) → OnDevice 256 n live → i < n → x ≡ cond (leb (startAt live i) t) (leftAt live i) 0 → x < 257
-put-at {live} {n} {i} {x} t d h e = go (leb (startAt live i) t) e
+pub put-at : {live : List ℕ} {n i x : ℕ} (t : ℕ) → OnDevice 256 n live → i < n → x ≡ cond (leb (fromAt live i) t) (leftAt live i) 0 → x < 257
+put-at {live} {n} {i} {x} t d h e = go (leb (fromAt live i) t) e
   where
     go : (b : Bool) → x ≡ cond b (leftAt live i) 0 → x < 257
     go true z = omega (arith, d .columns i h, d .past i h)
@@ -67,11 +67,11 @@ put-at {live} {n} {i} {x} t d h e = go (leb (startAt live i) t) e
 
 -- ONE TASK MORE
 pub mark-one : {live row : List ℕ} {n t i x : ℕ} → Marking live n t row i → OnDevice 256 n live → i < n
-    → x ≡ cond (leb (startAt live i) t) (leftAt live i) 0 → Marking live n t (set row x (pastAt live i)) (i + 1)
+    → x ≡ cond (leb (fromAt live i) t) (leftAt live i) 0 → Marking live n t (set row x (pastAt live i)) (i + 1)
 mark-one {live} {row} {n} {t} {i} {x} o d h e = record {
   upto = omega arith;
   size = length-set row x (pastAt live i) ∙ o .size;
-  marked = record { each = λ k l s. each k l s (decEq (leftAt live k) x) (decEq k i); one = λ c l p. one c l p (decEq c x) (leb (startAt live i) t) refl };
+  marked = record { each = λ k l s. each k l s (decEq (leftAt live k) x) (decEq k i); one = λ c l p. one c l p (decEq c x) (leb (fromAt live i) t) refl };
 }
   where
     next : List ℕ
@@ -83,15 +83,15 @@ mark-one {live} {row} {n} {t} {i} {x} o d h e = record {
     other : (c : ℕ) → (c ≡ x → ⊥) → getD next c 0 ≡ getD row c 0
     other c z = getD-set-other row x c (pastAt live i) 0 z
 
-    each : (k : ℕ) → k < i + 1 → startAt live k ≤ t → Dec (leftAt live k ≡ x) → Dec (k ≡ i) → 0 < getD next (leftAt live k) 0
+    each : (k : ℕ) → k < i + 1 → fromAt live k ≤ t → Dec (leftAt live k ≡ x) → Dec (k ≡ i) → 0 < getD next (leftAt live k) 0
     each k l s (yes z) q = omega (arith, here (leftAt live k) z, d .columns i h)
     each k l s (no z) (yes q) =
-        absurd (z (ap (leftAt live) q ∙ sym (e ∙ ap (λ b. cond b (leftAt live i) 0) (ap (λ m. leb (startAt live m) t) (sym q) ∙ le-leb (startAt live k) t s))))
+        absurd (z (ap (leftAt live) q ∙ sym (e ∙ ap (λ b. cond b (leftAt live i) 0) (ap (λ m. leb (fromAt live m) t) (sym q) ∙ le-leb (fromAt live k) t s))))
     each k l s (no z) (no q) = omega (arith, other (leftAt live k) z, o .marked .each k (omega arith) s)
 
-    one : (c : ℕ) → 1 ≤ c → 0 < getD next c 0 → Dec (c ≡ x) → (b : Bool) → leb (startAt live i) t ≡ b
-        → (k : ℕ) × (k < i + 1) × (startAt live k ≤ t) × (leftAt live k ≡ c) × (pastAt live k ≡ getD next c 0)
-    one c l p (yes z) true q = (i, omega arith, leb-true (startAt live i) t q, sym (z ∙ e ∙ ap (λ b. cond b (leftAt live i) 0) q), sym (here c z))
+    one : (c : ℕ) → 1 ≤ c → 0 < getD next c 0 → Dec (c ≡ x) → (b : Bool) → leb (fromAt live i) t ≡ b
+        → (k : ℕ) × (k < i + 1) × (fromAt live k ≤ t) × (leftAt live k ≡ c) × (pastAt live k ≡ getD next c 0)
+    one c l p (yes z) true q = (i, omega arith, leb-true (fromAt live i) t q, sym (z ∙ e ∙ ap (λ b. cond b (leftAt live i) 0) q), sym (here c z))
     one c l p (yes z) false q = absurd (let y : x ≡ 0 = e ∙ ap (λ b. cond b (leftAt live i) 0) q in omega arith)
     one c l p (no z) b q =
         let k = o .marked .one c l (omega (arith, other c z)) in
@@ -103,10 +103,10 @@ mark-all {live} {row} {n} {t} {i} o h = let z : i ≡ n = omega (arith, o .upto)
 -- WHAT THE ROW OF ALL THE TASKS THAT FINISH AFTER t SAYS
 module _ {W count n t : ℕ} {live row : List ℕ} (d : OnDevice W count live) (f : Falling count live) (p : Apart count live) (a : After live count t n) (m : Marked live n t row) where
   -- two tasks that hold their columns at t, of which each begins before the other ends, are one
-  clash : (i j : ℕ) → i < n → j < n → startAt live i ≤ t → startAt live j ≤ t → leftAt live i < pastAt live j → leftAt live j < pastAt live i → i ≡ j
+  clash : (i j : ℕ) → i < n → j < n → fromAt live i ≤ t → fromAt live j ≤ t → leftAt live i < pastAt live j → leftAt live j < pastAt live i → i ≡ j
   clash i j g h s u x y = go (decLt i j) (decLt j i)
     where
-      shared : (i j : ℕ) → i < n → j < n → startAt live i ≤ t → startAt live j ≤ t → leftAt live i < pastAt live j → leftAt live j < pastAt live i
+      shared : (i j : ℕ) → i < n → j < n → fromAt live i ≤ t → fromAt live j ≤ t → leftAt live i < pastAt live j → leftAt live j < pastAt live i
           → Share (taskAt live i) (taskAt live j)
       shared i j g h s u x y =
           let b = d .columns i (omega (arith, a .few)) in

@@ -7,7 +7,7 @@ use native.Mathlib.Omega.{arith}
 use lib.Dec.{ltb}
 use borrow.Author.Tests.{lt-ltb, le-ltb}
 use Rattle.lists.specs.Lists.{some?, range}
-use Rattle.live.specs.Live.{startAt, finishAt, leftAt, pastAt, taskAt, tasksOf, OnDevice, Falling, After}
+use Rattle.live.specs.Live.{fromAt, finishAt, leftAt, pastAt, taskAt, tasksOf, OnDevice, Falling, After}
 use Rattle.live.proofs.Laws.{after-stays, some-after}
 use Rattle.planners.proofs.Lent.{some-tasks, some-first, some-end, meets-at}
 use Rattle.stuffing.specs.Fit.{meetsAt}
@@ -30,12 +30,12 @@ module _ (live : List ℕ) (c w t e : ℕ) where
         ended : (i : ℕ) → n ≤ i → i < count → meet i ≡ false
         ended i l h =
             meets-at o i h c w t e p q
-            ∙ ap (λ b. (ltb c (pastAt live i) && ltb (leftAt live i) (c + w)) && (b && ltb (startAt live i) (t + e))) (le-ltb t (finishAt live i) (a .ended i l h))
+            ∙ ap (λ b. (ltb c (pastAt live i) && ltb (leftAt live i) (c + w)) && (b && ltb (fromAt live i) (t + e))) (le-ltb t (finishAt live i) (a .ended i l h))
             ∙ and-false (ltb c (pastAt live i) && ltb (leftAt live i) (c + w))
 
     -- the test of task i, by the table: it has not finished
     abbrev test : ℕ → Bool
-    test i = (ltb c (pastAt live i) && ltb (leftAt live i) (c + w)) && ltb (startAt live i) (t + e)
+    test i = (ltb c (pastAt live i) && ltb (leftAt live i) (c + w)) && ltb (fromAt live i) (t + e)
 
     module _ (f : Falling count live) {i : ℕ} (m : MeetsFrom count n i) (h : i < n) where
       here : some? (meetsAt c w t e) (tasksOf count live) ≡ (test i || some? meet (range (i + 1) (n - (i + 1))))
@@ -43,7 +43,7 @@ module _ (live : List ℕ) (c w t e : ℕ) where
           m .rest ∙ some-first meet i n h
           ∙ ap (λ b. b || some? meet (range (i + 1) (n - (i + 1))))
           (meets-at o i (omega (arith, a .few)) c w t e p q
-          ∙ ap (λ b. (ltb c (pastAt live i) && ltb (leftAt live i) (c + w)) && (b && ltb (startAt live i) (t + e))) (lt-ltb t (finishAt live i) (after-stays f a i h)))
+          ∙ ap (λ b. (ltb c (pastAt live i) && ltb (leftAt live i) (c + w)) && (b && ltb (fromAt live i) (t + e))) (lt-ltb t (finishAt live i) (after-stays f a i h)))
 
       pub meets-hit : test i ≡ true → true ≡ some? (meetsAt c w t e) (tasksOf count live)
       meets-hit z = sym (here ∙ ap (λ b. b || some? meet (range (i + 1) (n - (i + 1)))) z)

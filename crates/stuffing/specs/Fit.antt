@@ -10,7 +10,7 @@ use Rattle.lists.specs.Lists.{_∈_, all?, range, never}
 use Rattle.tasks.specs.declared.Task.{Task}
 use Rattle.tasks.specs.Tasks.{from, finish, past, overlap}
 use Rattle.columns.specs.Columns.{columns, Run, runs, key}
-use Rattle.live.specs.Live.{startAt, leftAt, pastAt}
+use Rattle.live.specs.Live.{fromAt, leftAt, pastAt}
 
 -- a stay on w columns from c on, e ticks from t on, shares a column with the task at a tick
 abbrev pub meetsAt : ℕ → ℕ → ℕ → ℕ → Task → Bool
@@ -19,8 +19,8 @@ meetsAt c w t e u = overlap c (c + w) (u .column) (past u) && overlap t (t + e) 
 -- a row in which each of the first n tasks that has started by t stands at its first column, with the first one past it: what it says at 0
 -- means nothing
 pub record Marked (live : List ℕ) (n t : ℕ) (row : List ℕ) : Type 0 where
-  pub each : (i : ℕ) → i < n → startAt live i ≤ t → 0 < getD row (leftAt live i) 0
-  pub one : (c : ℕ) → 1 ≤ c → 0 < getD row c 0 → (i : ℕ) × (i < n) × (startAt live i ≤ t) × (leftAt live i ≡ c) × (pastAt live i ≡ getD row c 0)
+  pub each : (i : ℕ) → i < n → fromAt live i ≤ t → 0 < getD row (leftAt live i) 0
+  pub one : (c : ℕ) → 1 ≤ c → 0 < getD row c 0 → (i : ℕ) × (i < n) × (fromAt live i ≤ t) × (leftAt live i ≡ c) × (pastAt live i ≡ getD row c 0)
 
 -- a number p at column k of a row is a stretch, the columns from k up to p: column c lies in none
 unfoldable pub unheld : List ℕ → ℕ → Bool

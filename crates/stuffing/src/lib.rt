@@ -35,7 +35,7 @@ fn mark_held(live: &Live, n: usize, t: u32, row: &mut [u16; 257])
 {
     let mut i: usize = 0;
     while i < n {
-        let at = column_if(live[live::START + i] <= t, live[live::LEFT + i]) as usize;
+        let at = column_if(live[live::FROM + i] <= t, live[live::LEFT + i]) as usize;
         row[at] = live[live::PAST + i] as u16;
         i += 1;
     }
@@ -116,7 +116,7 @@ fn meets_any(
     let mut i: usize = 0;
     while i < n {
         if ((c < live[live::PAST + i]) & (live[live::LEFT + i] < to))
-            & (live[live::START + i] < end)
+            & (live[live::FROM + i] < end)
         {
             return true;
         }

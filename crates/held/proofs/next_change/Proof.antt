@@ -5,7 +5,7 @@ use mathlib.Core.List.{List}
 use native.Mathlib.Omega.{arith}
 use native.Mathlib.Decide.{decLt, ℕ-discrete as decEq}
 use Rattle.lists.specs.Lists.{never}
-use Rattle.live.specs.Live.{startAt, finishAt, Falling, After, NextFinish}
+use Rattle.live.specs.Live.{fromAt, finishAt, Falling, After, NextFinish}
 use Rattle.held.specs.Held.{Unchanged}
 use borrow.Author.Needs.{needs}
 use Rattle.held.proofs.next_change.Statement.{statement}
@@ -13,16 +13,16 @@ use Rattle.held.proofs.next_change.Tie as tie
 
 -- none of the first i tasks comes into the stay before r
 Comes : (live : List ℕ) (i t e r : ℕ) → Type 0
-Comes live i t e r = (j : ℕ) → j < i → t + e ≤ startAt live j → r + e ≤ startAt live j + 1
+Comes live i t e r = (j : ℕ) → j < i → t + e ≤ fromAt live j → r + e ≤ fromAt live j + 1
 
 -- `comes` is what the start lies past t + e, where it comes after
 one-more : (live : List ℕ) (n t e best comes r : ℕ) → Comes live n t e (t + 1 + best)
-    → comes < 4294967296 → (comes + (t + e)) % 4294967296 ≡ startAt live n → t + e ≤ 4000000000 → r ≡ min comes best → Comes live (n + 1) t e (t + 1 + r)
+    → comes < 4294967296 → (comes + (t + e)) % 4294967296 ≡ fromAt live n → t + e ≤ 4000000000 → r ≡ min comes best → Comes live (n + 1) t e (t + 1 + r)
 unfolding Comes
 one-more live n t e best comes r o u v b h = λ i l k. come i l k (decEq i n)
   where
-    come : (i : ℕ) → i < n + 1 → t + e ≤ startAt live i → Dec (i ≡ n) → t + 1 + r + e ≤ startAt live i + 1
-    come i l k (yes z) = let y : t + e ≤ startAt live n = rw z at k in rw z (omega arith)
+    come : (i : ℕ) → i < n + 1 → t + e ≤ fromAt live i → Dec (i ≡ n) → t + 1 + r + e ≤ fromAt live i + 1
+    come i l k (yes z) = let y : t + e ≤ fromAt live n = rw z at k in rw z (omega arith)
     come i l k (no z) = omega (arith, o i (omega arith) k)
 
 -- a task that has finished is not asked
@@ -34,7 +34,7 @@ all-tasks live n t e before next r c p b m f count g a =
     let x : NextFinish live count t next = f count t g a b in
     record { after = omega (arith, x .after); finishes = λ i h k. omega (arith, x .least i h k); starts = λ i h y k. go i h y k (decLt i n) }
   where
-    go : (i : ℕ) → i < count → t < finishAt live i → t + e ≤ startAt live i → Dec (i < n) → r + e ≤ startAt live i + 1
+    go : (i : ℕ) → i < count → t < finishAt live i → t + e ≤ fromAt live i → Dec (i < n) → r + e ≤ fromAt live i + 1
     go i h y k (yes z) = omega (arith, c i z k)
     go i h y k (no z) = absurd (omega (arith, a .ended i (omega arith) h))
 
