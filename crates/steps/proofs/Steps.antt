@@ -235,7 +235,8 @@ module _ (d : Brief) (ks : List Task) {rows masks : List ℕ} (k : Keeps d ks ro
       begun-at = slot-begun b n slot good slot-is inside ∙ has-begun taskThere (task .phase) ∙ ap (λ x. leb x (d .clock)) (sym begins)
 
       -- WITHDRAWN
-      pub step-withdraw : {r : ℕ} → r ≡ refusal (withdrawTests (ltb p (d .count)) (leb (startAt rows p) (d .clock))) → r ≡ 0 → {next words : List ℕ} → Closed 6 (d .count) p rows next → Closed 4 (d .count) p masks words → (used : ℕ)
+      pub step-withdraw : {r : ℕ} → r ≡ refusal (withdrawTests (ltb p (d .count)) (leb (startAt rows p) (d .clock))) → r ≡ 0
+          → {next words : List ℕ} → Closed 6 (d .count) p rows next → Closed 4 (d .count) p masks words → (used : ℕ)
           → ((j : ℕ) → j < 64 → bit used j ≡ (bit (d .used) j && not (eqb j slot)))
           → Follows d ks (outcome (stateOf ks d) (Withdraw n)) (numbered 0 (withLive d (d .clock) (d .count - 1) used) (Freed slot)) next words
       unfolding outcome changed
@@ -287,7 +288,9 @@ module _ (d : Brief) (ks : List Task) {rows masks : List ℕ} (k : Keeps d ks ro
     -- 3 to 10
     pub step-unplaced : (n : ℕ) (a : Submission) (x : Answer) (m : ℕ) → x ≡ submitted b n a .answer → ((c t e : ℕ) → x ≡ Placed c t e → ⊥) → told x ≡ bare m
         → submitOutcome (stateOf ks d) n a ≡ record { answer = bare m; state = stateOf ks d }
-    step-unplaced n a x m e none? q = ap (λ y. record { answer = told (y .answer); state = withBoard (stateOf ks d) (y .board) }) (unplaced-same b n a x (sym e) none?) ∙ ap (λ y. record { answer = y; state = stateOf ks d }) q
+    step-unplaced n a x m e none? q =
+        ap (λ y. record { answer = told (y .answer); state = withBoard (stateOf ks d) (y .board) }) (unplaced-same b n a x (sym e) none?)
+        ∙ ap (λ y. record { answer = y; state = stateOf ks d }) q
 
     -- A PLACE
     module _ (n : ℕ) (a : Submission) (free c t e : ℕ) (z : free ≡ lowestFree ks) (q : Placed c t e ≡ submitted b n a .answer) where
@@ -322,7 +325,8 @@ module _ (d : Brief) (ks : List Task) {rows masks : List ℕ} (k : Keeps d ks ro
 
       pub step-placed : a .id ≤ 4294967295 → (x : Task) → x ≡ booked (d .clock) a t c → {next words : List ℕ} → Inserted (d .count) free x rows masks next words → (used : ℕ)
           → ((j : ℕ) → j < 64 → bit used j ≡ (bit (d .used) j || eqb j free))
-          → Follows d ks (submitOutcome (stateOf ks d) n a) (record { number = 0; column = c; start = t; finish = e; brief = withLive d (d .clock) (d .count + 1) used; change = Booked free x }) next words
+          → Follows d ks (submitOutcome (stateOf ks d) n a)
+          (record { number = 0; column = c; start = t; finish = e; brief = withLive d (d .clock) (d .count + 1) used; change = Booked free x }) next words
       unfolding told changed
       step-placed i x w {next} {words} p used f =
           subst (λ o. Follows d ks o (record { number = 0; column = c; start = t; finish = e; brief = withLive d (d .clock) (d .count + 1) used; change = Booked free x }) next words)
