@@ -6,7 +6,7 @@ use native.Mathlib.Omega.{arith}
 use native.Mathlib.Nat.{pow-suc}
 use lib.ListN.{length, take, drop, getD}
 use lib.Seq.{take-add, drop-drop}
-use Rattle.tasks.specs.declared.Submission.{Submission}
+use Rattle.events.specs.declared.Ask.{Ask}
 use Rattle.events.specs.declared.Event.{Event}
 use Rattle.events.specs.declared.Event.the-variants.{NewBoard, Submit, Clock, Withdraw}
 use Rattle.events.specs.declared.Reading.the-variants.{Got}
@@ -44,7 +44,7 @@ field-bytes (suc at) (suc n) [] h k = absurd (omega arith)
 field-bytes (suc at) n (b ∷ l) h k = field-bytes at n l (λ i. h (suc i)) (omega arith)
 
 -- each field of an event has its record's width
-pub record SubmissionFits (a : Submission) : Type 0 where
+pub record AskFits (a : Ask) : Type 0 where
   pub id : a .id < 256 ^ 4
   pub w : a .w < 256 ^ 2
   pub h : a .h < 256 ^ 2
@@ -53,7 +53,7 @@ pub record SubmissionFits (a : Submission) : Type 0 where
 
 pub data Fits : Event → Type 0 where
   board : {W H : ℕ} → W < 256 ^ 2 → H < 256 ^ 2 → Fits (NewBoard W H)
-  submission : {n : ℕ} {a : Submission} → n < 256 ^ 1 → SubmissionFits a → Fits (Submit n a)
+  submission : {n : ℕ} {a : Ask} → n < 256 ^ 1 → AskFits a → Fits (Submit n a)
   instant : {i : ℕ} → i < 256 ^ 4 → Fits (Clock i)
   name : {n : ℕ} → n < 256 ^ 4 → Fits (Withdraw n)
 

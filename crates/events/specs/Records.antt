@@ -5,6 +5,8 @@ use mathlib.Core.List.{List, [], _∷_, _++_}
 use lib.Dec.{leb, ltb, eqb}
 use lib.ListN.{length}
 use Rattle.lists.specs.Lists.{overFront}
+use Rattle.tasks.specs.declared.Submission.{Submission}
+use Rattle.events.specs.declared.Ask.{Ask}
 use Rattle.events.specs.declared.Event.{Event}
 use Rattle.events.specs.declared.Event.the-variants.{NewBoard, Submit, Clock, Withdraw}
 use Rattle.events.specs.declared.Reading.{Reading}
@@ -47,6 +49,10 @@ submitIn body =
       w = field 5 2 body;
       h = field 7 2 body;
     })
+
+-- "2 submit": what it asks of a planner
+abbrev pub submissionOf : Ask → Submission
+submissionOf a = record { id = a .id; e = a .e; d = a .d; w = a .w; h = a .h }
 
 -- "3 clock: instant 4"
 abbrev pub clockIn : List ℕ → Event

@@ -2,13 +2,22 @@
 ghost use mathlib.Core.Path.{_≡_};
 ghost use Prim.Native.Nat.{_+_, _<_};
 ghost use lib.ListN.{length, drop};
-ghost use Rattle.events.specs.Records.{kindOf, newBoardIn, submitIn, clockIn, withdrawIn, wholeOr15, readFrom, written, writtenBuffer, toldRead, toldWritten};
+ghost use Rattle.events.specs.Records.{kindOf, newBoardIn, submitIn, clockIn, withdrawIn, wholeOr15, readFrom, written, writtenBuffer, submissionOf, toldRead, toldWritten};
 use tasks::Submission;
+
+// What an event of kind 2 asks for, as its body says it: its own, so that a later field of a submission changes no record.
+pub struct Ask {
+    pub id: u32,
+    pub e: u32,
+    pub d: u32,
+    pub w: u16,
+    pub h: u16,
+}
 
 // "an event's fields have the record's widths"
 pub enum Event {
     NewBoard { columns: u16, rows: u16 },
-    Submit { planner: u8, task: Submission },
+    Submit { planner: u8, ask: Ask },
     Clock { instant: u32 },
     Withdraw { id: u32 },
 }
@@ -46,14 +55,14 @@ fn read_submit(body: &[u8]) -> Reading
         return Reading::CutShort(2);
     }
     let planner = body[0];
-    let task = Submission {
+    let ask = Ask {
         id: fields::field_4(body, 1),
         w: fields::field_2(body, 5),
         h: fields::field_2(body, 7),
         e: fields::field_4(body, 9),
         d: fields::field_4(body, 13),
     };
-    Reading::Got(Event::Submit { planner, task }, 18)
+    Reading::Got(Event::Submit { planner, ask }, 18)
 }
 
 fn read_clock(body: &[u8]) -> Reading
@@ -85,12 +94,22 @@ pub fn kind_of(event: Event) -> u8
             columns: _,
             rows: _,
         } => 1,
-        Event::Submit {
-            planner: _,
-            task: _,
-        } => 2,
+        Event::Submit { planner: _, ask: _ } => 2,
         Event::Clock { instant: _ } => 3,
         Event::Withdraw { id: _ } => 4,
+    }
+}
+
+// What such an event asks of a planner.
+pub fn submission_of(ask: Ask) -> Submission
+    ensures { λ r. ⌜ r ≡ submissionOf ask ⌝ }
+{
+    Submission {
+        id: ask.id,
+        e: ask.e,
+        d: ask.d,
+        w: ask.w,
+        h: ask.h,
     }
 }
 
@@ -142,20 +161,20 @@ fn write_new_board(buffer: &mut [u8], columns: u16, rows: u16) -> Written
     Written::Length(5)
 }
 
-fn write_submit(buffer: &mut [u8], planner: u8, task: Submission) -> Written
-    ensures { λ r. ⌜ r ≡ written (Event.Submit planner task) (length (now (buffer .entry))) ⌝ }
-    ensures { λ _. ⌜ now (buffer .exit) ≡ writtenBuffer (Event.Submit planner task) (now (buffer .entry)) ⌝ }
+fn write_submit(buffer: &mut [u8], planner: u8, ask: Ask) -> Written
+    ensures { λ r. ⌜ r ≡ written (Event.Submit planner ask) (length (now (buffer .entry))) ⌝ }
+    ensures { λ _. ⌜ now (buffer .exit) ≡ writtenBuffer (Event.Submit planner ask) (now (buffer .entry)) ⌝ }
 {
     if buffer.len() < 18 {
         return Written::NoRoom;
     }
     fields::put_1(buffer, 0, 2);
     fields::put_1(buffer, 1, planner);
-    fields::put_4(buffer, 2, task.id);
-    fields::put_2(buffer, 6, task.w);
-    fields::put_2(buffer, 8, task.h);
-    fields::put_4(buffer, 10, task.e);
-    fields::put_4(buffer, 14, task.d);
+    fields::put_4(buffer, 2, ask.id);
+    fields::put_2(buffer, 6, ask.w);
+    fields::put_2(buffer, 8, ask.h);
+    fields::put_4(buffer, 10, ask.e);
+    fields::put_4(buffer, 14, ask.d);
     Written::Length(18)
 }
 
@@ -191,7 +210,7 @@ pub fn write(buffer: &mut [u8], v: Event) -> Written
 {
     match v {
         Event::NewBoard { columns, rows } => write_new_board(buffer, columns, rows),
-        Event::Submit { planner, task } => write_submit(buffer, planner, task),
+        Event::Submit { planner, ask } => write_submit(buffer, planner, ask),
         Event::Clock { instant } => write_clock(buffer, instant),
         Event::Withdraw { id } => write_withdraw(buffer, id),
     }

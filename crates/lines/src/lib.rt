@@ -4,8 +4,8 @@ ghost use Prim.Native.Nat.{_≤_};
 ghost use lib.ListN.{length, take, drop};
 ghost use Rattle.wording.specs.Wording.{words, firstWord, otherWords};
 ghost use Rattle.lines.specs.Lines.{lessReturn, plannerOf, boardLine, clockLine, withdrawLine, submitLine, saidBy, says};
+use events::Ask;
 use events::Event;
-use tasks::Submission;
 use wording::Sort;
 
 // What a line says: nothing, an event, or which of its words is wrong, counted from 1, in a line of which kind (0: of none).
@@ -92,7 +92,7 @@ fn submit_line(text: &[u8], at: usize) -> Line
         };
     }
     let values = n.values;
-    let task = Submission {
+    let ask = Ask {
         id: values[0],
         w: values[1] as u16,
         h: values[2] as u16,
@@ -101,7 +101,7 @@ fn submit_line(text: &[u8], at: usize) -> Line
     };
     Line::Says(Event::Submit {
         planner: planner as u8,
-        task: task,
+        ask: ask,
     })
 }
 

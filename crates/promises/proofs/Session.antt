@@ -35,8 +35,10 @@ use Rattle.board.proofs.Kept.{instant-passable, clocked-done, refused-clock-sam
 use Rattle.board.proofs.Submit.{submit-unsound}
 use Rattle.board.proofs.Tested.{clocked-unsound, withdrawn-unsound}
 use Rattle.board.proofs.Placed.{placed-opens, BooksAt, placed-books, unplaced-same}
+use Rattle.events.specs.declared.Ask.{Ask}
 use Rattle.events.specs.declared.Event.{Event}
 use Rattle.events.specs.declared.Event.the-variants.{NewBoard, Submit, Clock, Withdraw}
+use Rattle.events.specs.Records.{submissionOf}
 use Rattle.steps.specs.declared.State.{State}
 use Rattle.steps.specs.Outcomes.{firstState, withBoard}
 use Rattle.session.specs.Recording.{outcome}
@@ -73,7 +75,7 @@ twice i j k = refl
 -- an id fits its field
 pub data Named : Event → Type 0 where
   new : (W H : ℕ) → Named (NewBoard W H)
-  submit : (n : ℕ) (a : Submission) → a .id ≤ largestId → Named (Submit n a)
+  submit : (n : ℕ) (a : Ask) → a .id ≤ largestId → Named (Submit n a)
   clock : (i : ℕ) → Named (Clock i)
   withdraw : (n : ℕ) → Named (Withdraw n)
 
@@ -253,10 +255,14 @@ module _ (b : Board) (ks : List Task) (o : Honest b ks) where
             on-clock k x h d = after-clock b i k x h d
 
     -- A SUBMISSION
-    honest-submit : (n : ℕ) (a : Submission) → a .id ≤ largestId → Honest (outcome (withBoard firstState b) (Submit n a) .state .board) (ledgerAfter (withBoard firstState b) ks (Submit n a))
+    honest-submit : (n : ℕ) (q : Ask) → q .id ≤ largestId
+        → Honest (outcome (withBoard firstState b) (Submit n q) .state .board) (ledgerAfter (withBoard firstState b) ks (Submit n q))
     unfolding outcome ledgerAfter
-    honest-submit n a i = go (submitted b n a .answer) refl
+    honest-submit n q i = go (submitted b n a .answer) refl
       where
+        a : Submission
+        a = submissionOf q
+
         go : (x : Answer) → submitted b n a .answer ≡ x → Honest (submitted b n a .board) (entered b a (submitted b n a .answer) ks)
         go Rejected e = same (ap (λ y. y .board) (unplaced-same b n a Rejected e (λ c t f q. let w : _≡_ {A = ℕ} 0 1 = cc in omega arith))) (ap (λ y. entered b a y ks) e ∙ entered-none)
           where
@@ -300,9 +306,11 @@ module _ (b : Board) (ks : List Task) (o : Honest b ks) where
     unfolding outcome ledgerAfter
     zero-clock i = same (ap (λ x. x .board) (clocked-unsound b i unsound)) refl
 
-    zero-submit : (n : ℕ) (a : Submission) → Honest (outcome (withBoard firstState b) (Submit n a) .state .board) (ledgerAfter (withBoard firstState b) ks (Submit n a))
+    zero-submit : (n : ℕ) (q : Ask) → Honest (outcome (withBoard firstState b) (Submit n q) .state .board) (ledgerAfter (withBoard firstState b) ks (Submit n q))
     unfolding outcome ledgerAfter entered
-    zero-submit n a = same (ap (λ x. x .board) (submit-unsound b n a unsound)) (ap (λ x. entered b a (x .answer) ks) (submit-unsound b n a unsound))
+    zero-submit n q =
+        let a = submissionOf q in
+        same (ap (λ x. x .board) (submit-unsound b n a unsound)) (ap (λ x. entered b a (x .answer) ks) (submit-unsound b n a unsound))
 
     zero-withdraw : (n : ℕ) → Honest (outcome (withBoard firstState b) (Withdraw n) .state .board) (ledgerAfter (withBoard firstState b) ks (Withdraw n))
     unfolding outcome ledgerAfter struck

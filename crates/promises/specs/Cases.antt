@@ -8,13 +8,18 @@ use Rattle.tasks.specs.declared.Submission.{Submission}
 use Rattle.board.specs.declared.Board.{Board}
 use Rattle.board.specs.Answers.{Told}
 use Rattle.board.specs.Calls.{created, opened, openedBuffer, listed, listedBuffer, counted}
+use Rattle.events.specs.declared.Ask.{Ask}
 use Rattle.events.specs.declared.Event.the-variants.{NewBoard, Submit, Clock, Withdraw}
 use Rattle.session.specs.Recording.{firstState, Outcome, outcome}
 use Rattle.steps.specs.Outcomes.{withBoard}
 
--- a submission, in the order of document 01's cases
-abbrev pub task : ℕ → ℕ → ℕ → ℕ → ℕ → Submission
-task id w h e d = record { id = id; e = e; d = d; w = w; h = h }
+-- what an event asks for, in the order of document 01's cases
+abbrev pub ask : ℕ → ℕ → ℕ → ℕ → ℕ → Ask
+ask id w h e d = record { id = id; e = e; d = d; w = w; h = h }
+
+-- a task without an id, for the openings call
+abbrev pub task : ℕ → ℕ → ℕ → ℕ → Submission
+task w h e d = record { id = 0; e = e; d = d; w = w; h = h }
 
 -- what is done to a board, or asked of it with a buffer of that many words, each 999 before
 pub data Step : Type 0 where
@@ -38,15 +43,15 @@ afterEvent r rest = numbers (r .answer) ∷ rest (r .state .board)
 unfoldable pub play : List Step → Board → List (List ℕ)
 play [] b = []
 play (board W H ∷ vs) b = afterEvent (outcome (withBoard firstState b) (NewBoard W H)) (play vs)
-play (submit n id w h e d ∷ vs) b = afterEvent (outcome (withBoard firstState b) (Submit n (task id w h e d))) (play vs)
+play (submit n id w h e d ∷ vs) b = afterEvent (outcome (withBoard firstState b) (Submit n (ask id w h e d))) (play vs)
 play (clock i ∷ vs) b = afterEvent (outcome (withBoard firstState b) (Clock i)) (play vs)
 play (withdraw n ∷ vs) b = afterEvent (outcome (withBoard firstState b) (Withdraw n)) (play vs)
 play (horizon words ∷ vs) b =
     let r = listed b words in
     (r .number ∷ r .count ∷ listedBuffer b (replicate words 999)) ∷ play vs (r .board)
 play (openings w h e d s c words ∷ vs) b =
-    let r = opened b (task 0 w h e d) s c words in
-    (r .number ∷ r .count ∷ cond (r .more) 1 0 ∷ openedBuffer b (task 0 w h e d) s c (replicate words 999)) ∷ play vs (r .board)
+    let r = opened b (task w h e d) s c words in
+    (r .number ∷ r .count ∷ cond (r .more) 1 0 ∷ openedBuffer b (task w h e d) s c (replicate words 999)) ∷ play vs (r .board)
 play (busy i ∷ vs) b =
     let r = counted b i in
     (r .number ∷ r .count ∷ []) ∷ play vs (r .board)

@@ -13,6 +13,7 @@ use Rattle.board.specs.declared.Answer.the-variants.{Rejected, Placed, Refused}
 use Rattle.board.specs.Calls.{submitted, withdrawn}
 use Rattle.events.specs.declared.Event.{Event}
 use Rattle.events.specs.declared.Event.the-variants.{NewBoard, Submit, Clock, Withdraw}
+use Rattle.events.specs.Records.{submissionOf}
 use Rattle.steps.specs.declared.State.{State}
 use Rattle.session.specs.Recording.{outcome}
 
@@ -30,7 +31,7 @@ struck b (suc m) n ks = ks
 -- the promises after an event; "between one new board and the next"
 unfoldable pub ledgerAfter : State → List Task → Event → List Task
 ledgerAfter s ks (NewBoard W H) = []
-ledgerAfter s ks (Submit n a) = entered (s .board) a (submitted (s .board) n a .answer) ks
+ledgerAfter s ks (Submit n a) = let x = submissionOf a in entered (s .board) x (submitted (s .board) n x .answer) ks
 ledgerAfter s ks (Clock i) = ks
 ledgerAfter s ks (Withdraw n) = struck (s .board) (withdrawn (s .board) n .number) n ks
 

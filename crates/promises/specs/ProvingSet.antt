@@ -8,7 +8,7 @@ use Rattle.events.specs.declared.Event.the-variants.{NewBoard, Submit, Clock, W
 use Rattle.events.specs.Records.{recordOf}
 use Rattle.lists.specs.Lists.{each}
 use Rattle.session.specs.Recording.{Line}
-use Rattle.promises.specs.Cases.{task, Step, submit, clock, withdraw, horizon, openings, Case, case, at, only}
+use Rattle.promises.specs.Cases.{ask, Step, submit, clock, withdraw, horizon, openings, Case, case, at, only}
 
 -- each row of the table as a clock to its arrival and a submission to planner n
 unfoldable pub played : ℕ → ℕ → List (List ℕ) → List Step
@@ -108,8 +108,8 @@ tellingSet =
 -- the listing of document 01: the records of its events, and the lines that `plan` prints
 unfoldable pub listingEvents : List Event
 listingEvents =
-    NewBoard 4 1 ∷ Submit 2 (task 1 2 1 2 9) ∷ Submit 2 (task 2 3 1 4 9) ∷ Submit 2 (task 3 1 1 5 5)
-    ∷ Submit 3 (task 3 1 1 5 5) ∷ Clock 2 ∷ Withdraw 2 ∷ []
+    NewBoard 4 1 ∷ Submit 2 (ask 1 2 1 2 9) ∷ Submit 2 (ask 2 3 1 4 9) ∷ Submit 2 (ask 3 1 1 5 5)
+    ∷ Submit 3 (ask 3 1 1 5 5) ∷ Clock 2 ∷ Withdraw 2 ∷ []
 
 -- a line of the listing
 abbrev pub line : ℕ → ℕ → ℕ → ℕ → ℕ → ℕ → Line

@@ -41,12 +41,12 @@ use Rattle.board.proofs.Kept.{SoundBoard, submitted-sound, clocked-done, withdr
 use Rattle.board.proofs.Tested.{clocked-unsound, clocked-refused, slot-begun, withdrawn-unsound, withdrawn-refused, withdrawn-known, withdrawn-freed}
 use Rattle.board.proofs.Submit.{submit-unsound}
 use Rattle.board.proofs.Placed.{BooksAt, placed-books, unplaced-same}
-use Rattle.events.specs.declared.Event.the-variants.{NewBoard, Submit, Clock, Withdraw}
+use Rattle.events.specs.declared.Event.the-variants.{NewBoard, Clock, Withdraw}
 use Rattle.steps.specs.declared.Brief.{Brief}
 use Rattle.steps.specs.declared.Change.{Change}
 use Rattle.steps.specs.declared.Change.the-variants.{Nothing, Booked, Freed, Cleared}
 use Rattle.steps.specs.declared.Done.{Done}
-use Rattle.steps.specs.Outcomes.{withBoard, Outcome, outcome}
+use Rattle.steps.specs.Outcomes.{withBoard, Outcome, submitOutcome, outcome}
 use Rattle.steps.specs.Standing.{stateOf, Keeps, Follows, asBooked, changed}
 
 -- a number without a place
@@ -104,8 +104,8 @@ module _ (d : Brief) (ks : List Task) {rows masks : List ℕ} (k : Keeps d ks ro
     unsound : soundBoard b ≡ false
     unsound = k .good ∙ u
 
-    pub unsound-submit : (n : ℕ) (a : Submission) → outcome (stateOf ks d) (Submit n a) ≡ record { answer = bare 1; state = stateOf ks d }
-    unfolding outcome told
+    pub unsound-submit : (n : ℕ) (a : Submission) → submitOutcome (stateOf ks d) n a ≡ record { answer = bare 1; state = stateOf ks d }
+    unfolding told
     unsound-submit n a = ap (λ x. record { answer = told (x .answer); state = withBoard (stateOf ks d) (x .board) }) (submit-unsound b n a unsound)
 
     pub unsound-clock : (i : ℕ) → outcome (stateOf ks d) (Clock i) ≡ record { answer = bare 1; state = stateOf ks d }
@@ -291,8 +291,7 @@ module _ (d : Brief) (ks : List Task) {rows masks : List ℕ} (k : Keeps d ks ro
 
     -- 3 to 10
     pub step-unplaced : (n : ℕ) (a : Submission) (x : Answer) (m : ℕ) → x ≡ submitted b n a .answer → ((c t e : ℕ) → x ≡ Placed c t e → ⊥) → told x ≡ bare m
-        → outcome (stateOf ks d) (Submit n a) ≡ record { answer = bare m; state = stateOf ks d }
-    unfolding outcome
+        → submitOutcome (stateOf ks d) n a ≡ record { answer = bare m; state = stateOf ks d }
     step-unplaced n a x m e none? q =
         ap (λ y. record { answer = told (y .answer); state = withBoard (stateOf ks d) (y .board) }) (unplaced-same b n a x (sym e) none?)
         ∙ ap (λ y. record { answer = y; state = stateOf ks d }) q
@@ -330,8 +329,8 @@ module _ (d : Brief) (ks : List Task) {rows masks : List ℕ} (k : Keeps d ks ro
 
       pub step-placed : a .id ≤ largestId → (x : Task) → x ≡ booked (d .clock) a t c → {next words : List ℕ} → Inserted (d .count) free x rows masks next words → (used : ℕ)
           → ((j : ℕ) → j < 64 → bit used j ≡ (bit (d .used) j || eqb j free))
-          → Follows d ks (outcome (stateOf ks d) (Submit n a)) (placedAt c t e (withLive d (d .clock) (d .count + 1) used) (Booked free x)) next words
-      unfolding outcome told changed
+          → Follows d ks (submitOutcome (stateOf ks d) n a) (placedAt c t e (withLive d (d .clock) (d .count + 1) used) (Booked free x)) next words
+      unfolding told changed
       step-placed i x w {next} {words} p used f =
           subst (λ o. Follows d ks o (placedAt c t e (withLive d (d .clock) (d .count + 1) used) (Booked free x)) next words)
           (sym (ap (λ o. record { answer = told (o .answer); state = withBoard (stateOf ks d) (o .board) }) same))

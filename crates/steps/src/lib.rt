@@ -3,9 +3,9 @@
 ghost use mathlib.Core.Path.{_≡_};
 ghost use mathlib.Core.List.{List};
 ghost use Rattle.tasks.specs.declared.Task.{Task};
-ghost use Rattle.events.specs.declared.Event.the-variants.{NewBoard, Submit, Clock, Withdraw};
+ghost use Rattle.events.specs.declared.Event.the-variants.{NewBoard, Clock, Withdraw};
 ghost use Rattle.steps.specs.declared.Change.the-variants.{Cleared};
-ghost use Rattle.steps.specs.Outcomes.{firstState, outcome};
+ghost use Rattle.steps.specs.Outcomes.{firstState, submitOutcome, outcome};
 ghost use Rattle.steps.specs.Standing.{stateOf, Keeps, Has, Follows};
 use board::Answer;
 use board::Board;
@@ -178,7 +178,7 @@ fn submit<'a>(
     a: Submission,
 ) -> Done
     requires { ⌜ Has d (now live) (now masks) ⌝ }
-    ensures { λ r. ⌜ ((ks : List Task) → Keeps d ks (now (live .entry)) (now (masks .entry)) → Follows d ks (outcome (stateOf ks d) (Submit planner a)) r (now (live .exit)) (now (masks .exit))) ⌝ }
+    ensures { λ r. ⌜ ((ks : List Task) → Keeps d ks (now (live .entry)) (now (masks .entry)) → Follows d ks (submitOutcome (stateOf ks d) planner a) r (now (live .exit)) (now (masks .exit))) ⌝ }
 {
     if !d.sound {
         return bare(1, d, Change::Nothing);
@@ -225,7 +225,9 @@ pub fn answered<'a>(live: &'a mut Live, masks: &'a mut Masks, d: Brief, event: E
 {
     match event {
         Event::NewBoard { columns, rows } => new_board(live, masks, d, columns, rows),
-        Event::Submit { planner, task } => submit(live, masks, d, planner, task),
+        Event::Submit { planner, ask } => {
+            submit(live, masks, d, planner, events::submission_of(ask))
+        }
         Event::Clock { instant } => clock(live, masks, d, instant),
         Event::Withdraw { id } => withdraw(live, masks, d, id),
     }

@@ -1,5 +1,6 @@
 -- `steps::answered` meets its contract: each event is its call. Assumes nothing.
 use borrow.Author.Needs.{needs}
+use Rattle.steps.specs.Outcomes.{outcome}
 use Rattle.steps.proofs.answered.Statement.{statement}
 use Rattle.steps.proofs.answered.Tie as tie
 
@@ -11,6 +12,9 @@ new-board-requires c κs = search needs
 
 enum-known-event-2 : tie.Need-enum-known-event-2
 enum-known-event-2 c = search needs
+
+submission-of-requires : tie.Need-submission-of-requires
+submission-of-requires c κs = search needs
 
 submit-requires : tie.Need-submit-requires
 submit-requires c κs = search needs
@@ -31,7 +35,10 @@ returns : tie.Need-returns
 returns c = λ ks k. rw (c .before .before .before .before .event .given .1) (c .new-board .ensures ks k)
 
 returns-2 : tie.Need-returns-2
-returns-2 c = λ ks k. rw (c .before .before .before .before .event2 .given .1) (c .submit .ensures ks k)
+unfolding outcome
+returns-2 c = λ ks k.
+    let asked = c .before in
+    rw (asked .before .before .before .before .event2 .given .1, ← asked .submission-of .ensures) (c .submit .ensures ks k)
 
 returns-3 : tie.Need-returns-3
 returns-3 c = λ ks k. rw (c .before .before .before .before .event3 .given .1) (c .clock .ensures ks k)
@@ -46,6 +53,7 @@ answered-spec =
     enum-known-event
     new-board-requires
     enum-known-event-2
+    submission-of-requires
     submit-requires
     enum-known-event-3
     clock-requires
