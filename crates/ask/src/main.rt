@@ -245,7 +245,7 @@ fn halted(r: Recording)
         return;
     }
     let mut text = [0u8; 8192];
-    let n = shown::put_halt(&mut text, r.number + 1, r.kind, r.end);
+    let n = board_text::put_halt(&mut text, r.number + 1, r.kind, r.end);
     io::write_all(STDERR_FILENO, &text[0..n]);
 }
 
@@ -261,7 +261,7 @@ fn say(bytes: &[u8]) -> bool {
 // "Its first line is `answer N`". Whether rows follow: "only if N is 0".
 fn answered(number: u8) -> bool {
     let mut text = [0u8; 8192];
-    let n = shown::put_answer(&mut text, streams::wide(number));
+    let n = board_text::put_answer(&mut text, streams::wide(number));
     let done = say(&text[0..n]);
     done & (number == 0)
 }
@@ -297,7 +297,7 @@ fn unsound(board: Board) -> u8 {
 fn ask_board(board: Board) {
     let mut text = [0u8; 8192];
     if answered(unsound(board)) {
-        let n = shown::put_board(&mut text, board);
+        let n = board_text::put_board(&mut text, board);
         say(&text[0..n]);
     }
 }
@@ -306,7 +306,7 @@ fn ask_board(board: Board) {
 fn ask_stamp(board: Board, instant: u32) {
     let mut text = [0u8; 8192];
     if answered(unsound(board)) {
-        let n = shown::put_stamped(&mut text, board, instant);
+        let n = board_text::put_stamped(&mut text, board, instant);
         say(&text[0..n]);
     }
 }

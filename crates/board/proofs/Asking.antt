@@ -16,7 +16,7 @@ use Rattle.ways.specs.Ways.{pair}
 use Rattle.tasks.specs.declared.Submission.{Submission}
 use Rattle.tasks.specs.Numbers.{within, sizeFits, timeFits, lastInstant, longest}
 use Rattle.tasks.proofs.Laws.{within-in}
-use Rattle.planners.specs.Openings.{Place, openings, pairWords, full}
+use Rattle.planners.specs.Openings.{Place, openings, pairNumbers, full}
 use Rattle.planners.specs.Planners.{planned}
 use Rattle.planners.proofs.Openings.{Opening, Before, after-listed, listed-after, after-ordered, after-last, after-none}
 use Rattle.slots.proofs.Soundness.{sound-in}
@@ -35,8 +35,8 @@ pub pairsFrom : ℕ → List ℕ → List Place
 pairsFrom zero ws = []
 pairsFrom (suc n) ws = pair (getD ws 0 0) (getD ws 1 0) ∷ pairsFrom n (drop 2 ws)
 
-read-back : (ps : List Place) (ws : List ℕ) → pairsFrom (length ps) (pairWords ps ++ ws) ≡ ps
-unfolding pairsFrom pairWords
+read-back : (ps : List Place) (ws : List ℕ) → pairsFrom (length ps) (pairNumbers ps ++ ws) ≡ ps
+unfolding pairsFrom pairNumbers
 read-back [] ws = refl
 read-back (p ∷ ps) ws = ap (λ qs. pair (p .start) (p .place) ∷ qs) (read-back ps ws)
 
@@ -78,7 +78,7 @@ module _ (b : Board) (a : Submission) where
     -- A CALL GIVES THE FIRST OF WHAT COMES AFTER THE PAIR, as many as fit, and says whether there are more
     pub given-first : (p : Place) (buffer : List ℕ) → given p buffer ≡ take (length buffer / 2) (left p)
     unfolding given opened openedBuffer orRefused
-    given-first p buffer = rw none-refused (read-back (take (length buffer / 2) (left p)) (drop (length (pairWords (take (length buffer / 2) (left p)))) buffer))
+    given-first p buffer = rw none-refused (read-back (take (length buffer / 2) (left p)) (drop (length (pairNumbers (take (length buffer / 2) (left p)))) buffer))
 
     pub more-left : (p : Place) (words : ℕ) → opened b a (p .start) (p .place) words .more ≡ ltb (words / 2) (length (left p))
     unfolding opened orRefused
@@ -90,7 +90,7 @@ module _ (b : Board) (a : Submission) where
     same-length p buffer =
         let ps = take (length buffer / 2) (left p) in
         let fits : length ps ≤ length buffer / 2 = omega (arith, length-take (length buffer / 2) (left p)) in
-        rw none-refused (length-append (pairWords ps) (drop (length (pairWords ps)) buffer) ∙ let h = words-length ps in omega (arith, length-drop (length (pairWords ps)) buffer))
+        rw none-refused (length-append (pairNumbers ps) (drop (length (pairNumbers ps)) buffer) ∙ let h = words-length ps in omega (arith, length-drop (length (pairNumbers ps)) buffer))
 
     -- AN OPENING IS IN THE LIST EXACTLY WHEN it starts from now on, lies within the device, overlaps no live task, meets the deadline, and comes after the pair
     pub left-opens : (p q : Place) → q ∈ left p → IsOpening q × Before p q

@@ -18,7 +18,7 @@ use Rattle.lists.proofs.Append.{index-test, index-passes}
 use Rattle.tasks.specs.declared.Device.{Device}
 use Rattle.tasks.specs.declared.Task.{Task}
 use Rattle.tasks.specs.declared.Submission.{Submission}
-use Rattle.tasks.specs.Numbers.{within, device, deviceFits, sizeFits, timeFits, largestId, lastInstant, longest}
+use Rattle.tasks.specs.Numbers.{within, device, deviceFits, sizeFits, timeFits, largestId, lastInstant, longest, lastPlanner}
 use Rattle.tasks.specs.Tasks.{finish, live, waitingPhase, stamped, freeSlot, zeros, booked}
 use Rattle.tasks.proofs.Laws.{Between, within-out}
 use Rattle.planners.specs.Openings.{Place}
@@ -50,7 +50,7 @@ slotAt b i = getD (b .tasks) i freeSlot
 -- WHAT A SUBMISSION THAT IS NOT REFUSED BRINGS
 pub record Accepted (b : Board) (n : ℕ) (a : Submission) : Type 0 where
   pub sound : SoundBoard b
-  pub planner : n ≤ 3
+  pub planner : n ≤ lastPlanner
   pub id : 1 ≤ a .id
   pub w : Between 1 (b .device .columns) (a .w)
   pub h : Between 1 (b .device .rows) (a .h)
@@ -75,7 +75,7 @@ submit-accepted b n a e =
     let six = not-not (timeFits (a .e) (a .d)) (r6 .0) in
     record {
       sound = sound-out (b .device) (b .now) (b .tasks) (not-not (soundBoard b) (r1 .0));
-      planner = nltb→le 3 n (r3 .0);
+      planner = nltb→le lastPlanner n (r3 .0);
       id = positive (r4 .0);
       w = within-out 1 (b .device .columns) (a .w) (and-l (within 1 (b .device .columns) (a .w)) (within 1 (b .device .rows) (a .h)) five);
       h = within-out 1 (b .device .rows) (a .h) (and-r (within 1 (b .device .columns) (a .w)) (within 1 (b .device .rows) (a .h)) five);

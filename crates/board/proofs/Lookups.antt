@@ -15,7 +15,7 @@ use Rattle.live.proofs.Planned.{on-device, same-tasks}
 use Rattle.lookups.specs.Lookups.{horizonList, busyColumns}
 use Rattle.lookups.proofs.Bare.{horizon-list-bare, busy-bare}
 use Rattle.lookups.proofs.Orderless.{horizon-list-orderless, busy-orderless}
-use Rattle.strips.specs.Strips.{written}
+use Rattle.horizon_list.specs.Listing.{written}
 use Rattle.board.specs.declared.Board.{Board}
 use Rattle.board.specs.Refusals.{refusal, liveOf, soundBoard, refusedInstant, horizonOf, refusedHorizon}
 use Rattle.board.specs.Calls.{orRefused, listed, listedBuffer, counted}

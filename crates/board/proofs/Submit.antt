@@ -16,7 +16,7 @@ use Rattle.ways.specs.Ways.{pair}
 use Rattle.tasks.specs.declared.Task.{Task}
 use Rattle.tasks.specs.declared.Submission.{Submission}
 use Rattle.tasks.specs.Tasks.{live, stamped, booked, meets}
-use Rattle.tasks.specs.Numbers.{lastInstant}
+use Rattle.tasks.specs.Numbers.{lastInstant, lastPlanner}
 use Rattle.planners.specs.declared.Found.{Found}
 use Rattle.planners.specs.declared.Found.the-variants.{Nothing, At}
 use Rattle.planners.specs.Openings.{Place, full, ways}
@@ -130,7 +130,7 @@ module _ (b : Board) (n : ℕ) (a : Submission) (count free : ℕ) (rows : List 
   accepted e q z = submit-accepted b n a (refused-after e ∙ sym q ∙ z)
 
   -- the planners' answers are the book's
-  planned-lent : n ≤ 3 → planned (b .device .columns) (b .now) (tasksOf count rows) (asked (a .w) (a .e) (a .d)) n ≡ planned (b .device .columns) (b .now) (liveOf b) a n
+  planned-lent : n ≤ lastPlanner → planned (b .device .columns) (b .now) (tasksOf count rows) (asked (a .w) (a .e) (a .d)) n ≡ planned (b .device .columns) (b .now) (liveOf b) a n
   planned-lent h = planned-orderless (same-tasks (b .device) (b .now) (b .tasks) count rows (o .stands) (o .good)) W (b .now) (asked (a .w) (a .e) (a .d)) n ∙ by n h
     where
       W : ℕ
@@ -139,7 +139,7 @@ module _ (b : Board) (n : ℕ) (a : Submission) (count free : ℕ) (rows : List 
       ts : List Task
       ts = liveOf b
 
-      by : (m : ℕ) → m ≤ 3 → planned W (b .now) (map bare ts) (asked (a .w) (a .e) (a .d)) m ≡ planned W (b .now) ts a m
+      by : (m : ℕ) → m ≤ lastPlanner → planned W (b .now) (map bare ts) (asked (a .w) (a .e) (a .d)) m ≡ planned W (b .now) ts a m
       by zero h = unfold planned in reference-bare W (b .now) ts (asked (a .w) (a .e) (a .d)) ∙ (unfold reference candidates clearOfWaiting booked stamped meets in refl)
       by (suc zero) h = unfold planned in horizon-bare W (b .now) ts (asked (a .w) (a .e) (a .d)) ∙ (unfold horizon releasedEdges visited in refl)
       by (suc (suc zero)) h = unfold planned in stuffing-bare W (b .now) ts (asked (a .w) (a .e) (a .d)) ∙ (unfold stuffing candidates clearOfWaiting visited booked stamped meets in refl)
@@ -160,7 +160,7 @@ module _ (b : Board) (n : ℕ) (a : Submission) (count free : ℕ) (rows : List 
     window = record { width = b .device .columns; clock = b .now; w = a .w; e = a .e; d = a .d }
 
     -- what `place` asks
-    pub may-ask : {masks : List ℕ} → ((n ≡ 1 → ⊥) → (n ≡ 2 → ⊥) → Masked count rows masks) → (n ≤ 3) × LentTo n (b .device .columns) count rows masks × Fits window
+    pub may-ask : {masks : List ℕ} → ((n ≡ 1 → ⊥) → (n ≡ 2 → ⊥) → Masked count rows masks) → (n ≤ lastPlanner) × LentTo n (b .device .columns) count rows masks × Fits window
     may-ask m = (k .planner, kept-lent-to o m, record { wide = k .w .low; columns = k .w .high; long = k .e .low; in-time = k .reachable; until = k .d })
 
     -- no place was found: the rejection

@@ -13,7 +13,7 @@ use Rattle.tasks.specs.declared.Submission.{Submission}
 use Rattle.tasks.specs.Numbers.{within, sizeFits, timeFits, lastInstant, longest}
 use Rattle.tasks.proofs.Laws.{Between, within-out}
 use Rattle.tasks.specs.Tasks.{meets, stamped, booked}
-use Rattle.planners.specs.Openings.{ways, pairWords}
+use Rattle.planners.specs.Openings.{ways, pairNumbers}
 use Rattle.planners.specs.declared.Window.{Window}
 use Rattle.planners.specs.Lent.{Fits, wanted}
 use Rattle.planners.proofs.Bare.{after-bare}
@@ -98,11 +98,11 @@ module _ (b : Board) (a : Submission) (s c : ℕ) (buffer : List ℕ) where
       -- DONE
       pub listed-opened : {f : Filled} {written : List ℕ}
           → f ≡ filledOf (length buffer) (openingsAfter (ways (b .device .columns) (b .now) (tasksOf count rows) (wanted q)) (pair s c))
-          → written ≡ overFront (pairWords (take (length buffer / 2) (openingsAfter (ways (b .device .columns) (b .now) (tasksOf count rows) (wanted q)) (pair s c)))) buffer
+          → written ≡ overFront (pairNumbers (take (length buffer / 2) (openingsAfter (ways (b .device .columns) (b .now) (tasksOf count rows) (wanted q)) (pair s c)))) buffer
           → Promised (record { number = 0; count = f .count; more = f .more; board = b }) written
       unfolding opened openedBuffer orRefused filledOf
       listed-opened {f} {written} p t =
           let n : refusedOpenings b a ≡ 0 = tests ∙ z in (
             rw n (ap (λ (g : Filled). record { number = 0; count = g .count; more = g .more; board = b }) (p ∙ ap (filledOf (length buffer)) remaining-lent)),
-            rw n (t ∙ ap (λ ps. overFront (pairWords (take (length buffer / 2) ps)) buffer) remaining-lent),
+            rw n (t ∙ ap (λ ps. overFront (pairNumbers (take (length buffer / 2) ps)) buffer) remaining-lent),
           )

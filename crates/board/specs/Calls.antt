@@ -12,10 +12,10 @@ use Rattle.tasks.specs.declared.Task.{Task}
 use Rattle.tasks.specs.declared.Submission.{Submission}
 use Rattle.tasks.specs.Numbers.{mostTasks, device}
 use Rattle.tasks.specs.Tasks.{freeSlot, booked}
-use Rattle.planners.specs.Openings.{Place, ways, pairWords}
+use Rattle.planners.specs.Openings.{Place, ways, pairNumbers}
 use Rattle.planners.specs.Planners.{planned}
 use Rattle.slots.specs.Slots.{withBooked, allAgedTo, withoutNamed}
-use Rattle.lookups.specs.Lookups.{stripWords, busyColumns}
+use Rattle.lookups.specs.Lookups.{stripNumbers, busyColumns}
 use Rattle.board.specs.declared.Board.{Board}
 use Rattle.board.specs.declared.Answer.the-variants.{Rejected, Placed, Refused}
 use Rattle.board.specs.declared.Created.{Created}
@@ -102,7 +102,7 @@ opened b a s c words =
 -- "Words beyond are untouched, an odd last word too"
 unfoldable pub openedBuffer : Board → Submission → ℕ → ℕ → List ℕ → List ℕ
 openedBuffer b a s c buffer =
-    let done = overFront (pairWords (take (length buffer / 2) (remaining b a s c))) buffer in
+    let done = overFront (pairNumbers (take (length buffer / 2) (remaining b a s c))) buffer in
     orRefused (refusedOpenings b a) (λ k. buffer) done
 
 -- HORIZON LIST: "returns the number of runs"
@@ -114,7 +114,7 @@ listed b words =
 -- "words beyond are left as found"
 unfoldable pub listedBuffer : Board → List ℕ → List ℕ
 listedBuffer b buffer =
-    orRefused (refusedHorizon b (length buffer)) (λ k. buffer) (overFront (stripWords (horizonOf b)) buffer)
+    orRefused (refusedHorizon b (length buffer)) (λ k. buffer) (overFront (stripNumbers (horizonOf b)) buffer)
 
 -- BUSY COLUMNS
 unfoldable pub counted : Board → ℕ → Counted

@@ -116,7 +116,7 @@ pub fn decide<'a>(
     if 0 < number {
         return Answer::Refused(number);
     }
-    let found = place::place(
+    let found = place::find(
         planner,
         live,
         masks,
@@ -186,7 +186,7 @@ impl Board {
         ensures { λ r. ⌜ r ≡ soundBoard self ⌝ }
     {
         let tasks = self.tasks;
-        pairs::is_sound(self.device, self.now, tasks)
+        soundness::is_sound(self.device, self.now, tasks)
     }
 
     // A task submitted to a planner: 1, 3 to 9; a place, or the rejection.
@@ -196,7 +196,7 @@ impl Board {
     {
         let tasks = self.tasks;
         let mut live = [0u32; 384];
-        let v = pairs::test(self.device, self.now, tasks, &mut live);
+        let v = soundness::test(self.device, self.now, tasks, &mut live);
         if !v.sound {
             return Submitted {
                 answer: Answer::Refused(1),
@@ -294,7 +294,7 @@ impl Board {
         let slot = slots::slot_named(tasks, id);
         let k = tasks[slot % 64];
         let waits = tasks::is_waiting(k);
-        let number = refusals::refuse_withdrawal(slot < 64, !waits);
+        let number = refusals::refuse_withdrawal(slot < tasks::MOST_TASKS, !waits);
         if 0 < number {
             return Withdrawn {
                 number: number,
@@ -316,7 +316,7 @@ impl Board {
         let tasks = self.tasks;
         let mut live = [0u32; 384];
         let mut masks = [0u64; 256];
-        let v = pairs::stand(self.device, self.now, tasks, &mut live, &mut masks);
+        let v = soundness::stand(self.device, self.now, tasks, &mut live, &mut masks);
         if !v.sound {
             return Opened {
                 number: 1,
@@ -363,7 +363,7 @@ impl Board {
     {
         let tasks = self.tasks;
         let mut live = [0u32; 384];
-        let v = pairs::test(self.device, self.now, tasks, &mut live);
+        let v = soundness::test(self.device, self.now, tasks, &mut live);
         if !v.sound {
             return Listed {
                 number: 1,
@@ -372,7 +372,7 @@ impl Board {
             };
         }
         let room = buffer.len();
-        let n = strips::strips(&live, v.count, self.device.columns as u32, self.now, buffer);
+        let n = horizon_list::list(&live, v.count, self.device.columns as u32, self.now, buffer);
         if room < 3 * n {
             return Listed {
                 number: 17,
@@ -393,7 +393,7 @@ impl Board {
     {
         let tasks = self.tasks;
         let mut live = [0u32; 384];
-        let v = pairs::test(self.device, self.now, tasks, &mut live);
+        let v = soundness::test(self.device, self.now, tasks, &mut live);
         if !v.sound {
             return Counted {
                 number: 1,
@@ -409,7 +409,7 @@ impl Board {
                 board: self,
             };
         }
-        let count = busy::busy(&live, v.count, self.device.columns as u32, instant);
+        let count = busy::count(&live, v.count, self.device.columns as u32, instant);
         Counted {
             number: 0,
             count: count,

@@ -26,7 +26,7 @@ fn held(live: &Live, count: usize, width: u32, instant: u32) -> [u64; 4]
 }
 
 // "The number of columns held at an instant", over the live tasks that are lent.
-pub fn busy(live: &Live, count: usize, width: u32, instant: u32) -> u32
+pub fn count(live: &Live, count: usize, width: u32, instant: u32) -> u32
     requires { ⌜ OnDevice width count (now live) ⌝ }
     ensures { λ r. ⌜ r ≡ busyColumns width (tasksOf count (now (live .entry))) instant ⌝ }
 {

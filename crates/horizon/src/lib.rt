@@ -57,14 +57,14 @@ fn look<'a>(past: &'a [u32; 256], at: &'a [u32; 256], n: usize, w: u32, t: u32) 
 }
 
 // Horizon over the live tasks that are lent.
-pub fn horizon(live: &Live, count: usize, q: Window) -> Found
+pub fn find(live: &Live, count: usize, q: Window) -> Found
     requires { ⌜ OnDevice (q .width) count (now live) × Falling count (now live) × Fits q ⌝ }
     ensures { λ r. ⌜ r ≡ foundOf (horizon (q .width) (q .clock) (tasksOf count (now (live .entry))) (wanted q)) ⌝ }
 {
-    let row = releases::releases(live, count, q.width, q.clock);
+    let row = releases::gather(live, count, q.width, q.clock);
     let mut ends = [0u32; 256];
     let mut at = [0u32; 256];
-    let n = releases::steps(&row, q.width, &mut ends, &mut at);
+    let n = releases::press(&row, q.width, &mut ends, &mut at);
     let last = q.d - q.e;
     let mut t = q.clock;
     'walk: loop {

@@ -11,8 +11,8 @@ use Rattle.lists.specs.Lists.{indexOf, lastOr}
 use Rattle.events.specs.declared.Event.{Event}
 use Rattle.events.specs.declared.Event.the-variants.{Submit}
 use Rattle.text.specs.Text.{value}
-use Rattle.wording.specs.declared.Sort.the-variants.{Hash}
-use Rattle.wording.specs.Wording.{stopsAt, same, empty, fits, wrong, nth}
+use Rattle.tokens.specs.declared.Sort.the-variants.{Hash}
+use Rattle.tokens.specs.Tokens.{stopsAt, same, empty, fits, wrong, nth}
 use Rattle.lines.specs.declared.Line.{Line}
 use Rattle.lines.specs.declared.Line.the-variants.{Nothing, Says, Wrong}
 use Rattle.lines.specs.Lines.{lessReturn, bare, plannerOf, saidOr, asks, submitBehind, boardLine, submitLine, clockLine, withdrawLine, saidBy}

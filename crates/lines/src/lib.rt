@@ -2,11 +2,11 @@
 ghost use mathlib.Core.Path.{_≡_};
 ghost use Prim.Native.Nat.{_≤_};
 ghost use lib.ListN.{length, take, drop};
-ghost use Rattle.wording.specs.Wording.{words, firstWord, otherWords};
+ghost use Rattle.tokens.specs.Tokens.{words, firstWord, otherWords};
 ghost use Rattle.lines.specs.Lines.{lessReturn, plannerOf, boardLine, clockLine, withdrawLine, submitLine, saidBy, says};
 use events::Ask;
 use events::Event;
-use wording::Sort;
+use tokens::Sort;
 
 // What a line says: nothing, an event, or which of its words is wrong, counted from 1, in a line of which kind (0: of none).
 pub enum Line {
@@ -33,19 +33,19 @@ fn less_return(line: &[u8]) -> usize
 fn planner(word: &[u8]) -> u32
     ensures { λ r. ⌜ (r ≡ plannerOf (now (word .entry))) × (r ≤ 256) ⌝ }
 {
-    if wording::is_name(word, b"reference") {
+    if tokens::is_name(word, b"reference") {
         return 0;
     }
-    if wording::is_name(word, b"horizon") {
+    if tokens::is_name(word, b"horizon") {
         return 1;
     }
-    if wording::is_name(word, b"stuffing") {
+    if tokens::is_name(word, b"stuffing") {
         return 2;
     }
-    if wording::is_name(word, b"full") {
+    if tokens::is_name(word, b"full") {
         return 3;
     }
-    let number = wording::read_number(word, 255);
+    let number = tokens::read_number(word, 255);
     if number.fits {
         return number.value;
     }
@@ -58,7 +58,7 @@ fn board_line(text: &[u8], at: usize) -> Line
     ensures { λ r. ⌜ r ≡ boardLine (words (drop at (now (text .entry)))) ⌝ }
 {
     let mosts: [u32; 2] = [65535, 65535];
-    let n = wording::read_numbers(text, at, &mosts);
+    let n = tokens::read_numbers(text, at, &mosts);
     if n.wrong != 0 {
         return Line::Wrong {
             kind: 1,
@@ -76,7 +76,7 @@ fn submit_line(text: &[u8], at: usize) -> Line
     requires { ⌜ at ≤ length (now text) ⌝ }
     ensures { λ r. ⌜ r ≡ submitLine (words (drop at (now (text .entry)))) ⌝ }
 {
-    let word = wording::next(text, at);
+    let word = tokens::next(text, at);
     let from = word.from;
     let to = word.to;
     let planner = planner(&text[from..to]);
@@ -84,7 +84,7 @@ fn submit_line(text: &[u8], at: usize) -> Line
         return Line::Wrong { kind: 2, word: 2 };
     }
     let mosts: [u32; 5] = [u32::MAX, 65535, 65535, u32::MAX, u32::MAX];
-    let n = wording::read_numbers(text, to, &mosts);
+    let n = tokens::read_numbers(text, to, &mosts);
     if n.wrong != 0 {
         return Line::Wrong {
             kind: 2,
@@ -110,7 +110,7 @@ fn clock_line(text: &[u8], at: usize) -> Line
     ensures { λ r. ⌜ r ≡ clockLine (words (drop at (now (text .entry)))) ⌝ }
 {
     let mosts: [u32; 1] = [u32::MAX];
-    let n = wording::read_numbers(text, at, &mosts);
+    let n = tokens::read_numbers(text, at, &mosts);
     if n.wrong != 0 {
         return Line::Wrong {
             kind: 3,
@@ -126,7 +126,7 @@ fn withdraw_line(text: &[u8], at: usize) -> Line
     ensures { λ r. ⌜ r ≡ withdrawLine (words (drop at (now (text .entry)))) ⌝ }
 {
     let mosts: [u32; 1] = [u32::MAX];
-    let n = wording::read_numbers(text, at, &mosts);
+    let n = tokens::read_numbers(text, at, &mosts);
     if n.wrong != 0 {
         return Line::Wrong {
             kind: 4,
@@ -141,23 +141,23 @@ fn withdraw_line(text: &[u8], at: usize) -> Line
 fn said(text: &[u8]) -> Line
     ensures { λ r. ⌜ r ≡ saidBy (firstWord (words (now (text .entry)))) (otherWords (words (now (text .entry)))) ⌝ }
 {
-    let word = wording::next(text, 0);
+    let word = tokens::next(text, 0);
     let from = word.from;
     let to = word.to;
     let name = &text[from..to];
-    if wording::is_empty(name) {
+    if tokens::is_empty(name) {
         return Line::Nothing;
     }
-    if wording::is_name(name, b"board") {
+    if tokens::is_name(name, b"board") {
         return board_line(text, to);
     }
-    if wording::is_name(name, b"submit") {
+    if tokens::is_name(name, b"submit") {
         return submit_line(text, to);
     }
-    if wording::is_name(name, b"clock") {
+    if tokens::is_name(name, b"clock") {
         return clock_line(text, to);
     }
-    if wording::is_name(name, b"withdraw") {
+    if tokens::is_name(name, b"withdraw") {
         return withdraw_line(text, to);
     }
     Line::Wrong { kind: 0, word: 1 }
@@ -168,6 +168,6 @@ pub fn read(line: &[u8]) -> Line
     ensures { λ r. ⌜ r ≡ says (now (line .entry)) ⌝ }
 {
     let n = less_return(line);
-    let end = wording::find(&line[0..n], Sort::Hash);
+    let end = tokens::find(&line[0..n], Sort::Hash);
     said(&line[0..end])
 }

@@ -3,7 +3,7 @@ ghost use mathlib.Core.Path.{_≡_};
 ghost use Prim.Native.Nat.{ℕ, _+_, _-_, _*_, _≤_, _<_, max, min};
 ghost use lib.ListN.{length};
 ghost use lib.Seq.{sets};
-ghost use Rattle.planners.specs.Openings.{pairWords};
+ghost use Rattle.planners.specs.Openings.{pairNumbers};
 ghost use Rattle.live.specs.Live.{Falling, After};
 ghost use Rattle.looking.specs.Looking.{runAt, NextTick};
 use live::Live;
@@ -11,7 +11,7 @@ use live::Live;
 // The openings at t from column `from` up to, not including, `to`: start and column of each, from the word `at` on.
 pub fn put_run(buffer: &mut [u32], at: usize, t: u32, from: u32, to: u32)
     requires { ⌜ (from ≤ to) × (at + 2 * (to - from) ≤ length (now buffer)) ⌝ }
-    ensures { λ _. ⌜ now (buffer .exit) ≡ sets (now (buffer .entry)) at (pairWords (runAt t from (to - from))) ⌝ }
+    ensures { λ _. ⌜ now (buffer .exit) ≡ sets (now (buffer .entry)) at (pairNumbers (runAt t from (to - from))) ⌝ }
 {
     let mut i = at;
     let mut c = from;

@@ -26,9 +26,9 @@ horizonList W now ts =
     (λ t. map (strip t) (runs (λ c. eqb (release now ts c) t) (columns W)))
 
 -- three words a run
-unfoldable pub stripWords : List Strip → List ℕ
-stripWords [] = []
-stripWords (s ∷ ss) = s .first ∷ s .last ∷ s .release ∷ stripWords ss
+unfoldable pub stripNumbers : List Strip → List ℕ
+stripNumbers [] = []
+stripNumbers (s ∷ ss) = s .first ∷ s .last ∷ s .release ∷ stripNumbers ss
 
 -- "The number of columns held at an instant"
 unfoldable pub busyColumns : ℕ → List Task → ℕ → ℕ

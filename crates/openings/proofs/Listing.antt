@@ -8,7 +8,7 @@ use native.Mathlib.Decide.{decLt}
 use lib.ListN.{length, take}
 use Rattle.lists.specs.Lists.{overFront}
 use Rattle.tasks.specs.declared.Task.{Task}
-use Rattle.planners.specs.Openings.{Place, pairWords}
+use Rattle.planners.specs.Openings.{Place, pairNumbers}
 use Rattle.planners.specs.Lent.{Fits}
 use Rattle.planners.specs.declared.Window.{Window}
 use Rattle.live.specs.Live.{tasksOf, OnDevice, After}
@@ -47,7 +47,7 @@ module _ (q : Window) (n : ℕ) (live : List ℕ) (a b : ℕ) (lent : List ℕ) 
 
   -- what is promised of the answer and the buffer
   abbrev Promised : Filled → List ℕ → Type 0
-  Promised o buffer = (o ≡ filledOf (length lent) (left a b)) × (buffer ≡ overFront (pairWords (take (length lent / 2) (left a b))) lent)
+  Promised o buffer = (o ≡ filledOf (length lent) (left a b)) × (buffer ≡ overFront (pairNumbers (take (length lent / 2) (left a b))) lent)
 
   -- t and c are the pair to start after, moved to now and to column 256
   abbrev From : ℕ → ℕ → Type 0
@@ -115,7 +115,7 @@ module _ (q : Window) (n : ℕ) (live : List ℕ) (a b : ℕ) (lent : List ℕ) 
       module _ {x : ℕ} (g : FirstFree words c (q .w) x) where
         -- A RUN WRITTEN
         pub list-run : 0 < x → {end to : ℕ} → Least (column words) x 257 end → x < to → to + q .w ≤ end + 1
-            → {after : List ℕ} → after ≡ sets buffer (k * 2) (pairWords (runAt t x (to - x)))
+            → {after : List ℕ} → after ≡ sets buffer (k * 2) (pairNumbers (runAt t x (to - x)))
             → {j : ℕ} → j ≡ k + (to - x) → j * 2 ≤ length lent → At t (to - 1) many words until after j
         list-run z {end} {to} y p u {after} v {j} h room = record {
           from-now = m .from-now;

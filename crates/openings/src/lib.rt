@@ -5,7 +5,7 @@ ghost use Prim.Native.Nat.{_+_, _-_, _*_, _/_, _<_};
 ghost use lib.ListN.{length, take};
 ghost use Rattle.lists.specs.Lists.{overFront};
 ghost use Rattle.ways.specs.Ways.{pair, openingsAfter};
-ghost use Rattle.planners.specs.Openings.{ways, pairWords};
+ghost use Rattle.planners.specs.Openings.{ways, pairNumbers};
 ghost use Rattle.live.specs.Live.{Lent, tasksOf};
 ghost use Rattle.planners.specs.Lent.{Fits, wanted};
 ghost use Rattle.openings.specs.Filled.{filledOf};
@@ -31,7 +31,7 @@ pub fn list<'a>(
 ) -> Filled
     requires { ⌜ Lent (q .width) count (now live) (now masks) × Fits q ⌝ }
     ensures { λ r. ⌜ r ≡ filledOf (length (now (buffer .entry))) (openingsAfter (ways (q .width) (q .clock) (tasksOf count (now (live .entry))) (wanted q)) (pair s c)) ⌝ }
-    ensures { λ r. ⌜ now (buffer .exit) ≡ overFront (pairWords (take (length (now (buffer .entry)) / 2) (openingsAfter (ways (q .width) (q .clock) (tasksOf count (now (live .entry))) (wanted q)) (pair s c)))) (now (buffer .entry)) ⌝ }
+    ensures { λ r. ⌜ now (buffer .exit) ≡ overFront (pairNumbers (take (length (now (buffer .entry)) / 2) (openingsAfter (ways (q .width) (q .clock) (tasksOf count (now (live .entry))) (wanted q)) (pair s c)))) (now (buffer .entry)) ⌝ }
 {
     let last = q.d - q.e;
     let mut t = looking::from_tick(q.clock, s);

@@ -2,6 +2,7 @@
 ghost use mathlib.Core.Path.{_≡_};
 ghost use Prim.Native.Nat.{_≤_};
 ghost use Rattle.live.specs.Live.{LentTo, tasksOf};
+ghost use Rattle.tasks.specs.Numbers.{lastPlanner};
 ghost use Rattle.planners.specs.Planners.{planned};
 ghost use Rattle.planners.specs.Lent.{foundOf, Fits, wanted};
 use live::Live;
@@ -10,12 +11,12 @@ use planners::Found;
 use planners::Window;
 
 // The place that the named planner finds among the live tasks. Reference is the search with no time after now.
-pub fn place<'a>(planner: u8, live: &'a Live, masks: &'a Masks, count: usize, q: Window) -> Found
-    requires { ⌜ (planner ≤ 3) × LentTo planner (q .width) count (now live) (now masks) × Fits q ⌝ }
+pub fn find<'a>(planner: u8, live: &'a Live, masks: &'a Masks, count: usize, q: Window) -> Found
+    requires { ⌜ (planner ≤ lastPlanner) × LentTo planner (q .width) count (now live) (now masks) × Fits q ⌝ }
     ensures { λ r. ⌜ r ≡ foundOf (planned (q .width) (q .clock) (tasksOf count (now (live .entry))) (wanted q) planner) ⌝ }
 {
     if planner == 0 {
-        return search::search(
+        return search::find(
             live,
             masks,
             count,
@@ -30,10 +31,10 @@ pub fn place<'a>(planner: u8, live: &'a Live, masks: &'a Masks, count: usize, q:
         );
     }
     if planner == 1 {
-        return horizon::horizon(live, count, q);
+        return horizon::find(live, count, q);
     }
     if planner == 2 {
-        return stuffing::stuffing(live, count, q);
+        return stuffing::find(live, count, q);
     }
-    search::search(live, masks, count, q, true)
+    search::find(live, masks, count, q, true)
 }

@@ -34,6 +34,6 @@ module _ (W now : ℕ) (ts : List Task) (a : Submission) where
   full = head? openings
 
 -- OPENINGS as they are written: "start, column"
-unfoldable pub pairWords : List Place → List ℕ
-pairWords [] = []
-pairWords (p ∷ ps) = p .start ∷ p .place ∷ pairWords ps
+unfoldable pub pairNumbers : List Place → List ℕ
+pairNumbers [] = []
+pairNumbers (p ∷ ps) = p .start ∷ p .place ∷ pairNumbers ps

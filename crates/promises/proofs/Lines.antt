@@ -14,9 +14,9 @@ use Rattle.events.specs.declared.Event.{Event}
 use Rattle.events.specs.declared.Event.the-variants.{NewBoard, Submit, Clock, Withdraw}
 use Rattle.text.specs.Text.{value, decimal}
 use Rattle.text.proofs.Meaning.{Digits, decimal-value, decimal-digits}
-use Rattle.wording.specs.declared.Sort.the-variants.{Hash}
-use Rattle.wording.specs.Wording.{blank, stopsAt, ended, wordsOn, words, firstWord, otherWords, same, empty, fits, wrong, nth}
-use Rattle.wording.proofs.Judged.{reads-decimal, some-digit}
+use Rattle.tokens.specs.declared.Sort.the-variants.{Hash}
+use Rattle.tokens.specs.Tokens.{blank, stopsAt, ended, wordsOn, words, firstWord, otherWords, same, empty, fits, wrong, nth}
+use Rattle.tokens.proofs.Judged.{reads-decimal, some-digit}
 use Rattle.lines.specs.declared.Line.the-variants.{Says}
 use Rattle.lines.specs.Lines.{lessReturn, bare, plannerOf, saidOr, boardLine, clockLine, withdrawLine, asks, submitBehind, submitLine, saidBy, says, boardName, submitName, clockName, withdrawName}
 use Rattle.promises.specs.Said.{joined, wordsOf, Wide}

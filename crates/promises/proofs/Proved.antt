@@ -11,10 +11,10 @@ use Rattle.lists.specs.Lists.{keep, some?, all?, pairwise?, head?, orElse, last
 use Rattle.ways.specs.Ways.{isOpen, pairsIn, openingsIn, after, openingsAfter, askedOn}
 use Rattle.tasks.specs.Tasks.{meets, covers, holds, phaseAt, stamped, zeros, booked}
 use Rattle.columns.specs.Columns.{join, runs, better, bestFit}
-use Rattle.planners.specs.Openings.{ways, full, pairWords}
+use Rattle.planners.specs.Openings.{ways, full, pairNumbers}
 use Rattle.planners.specs.Planners.{free, release, visited, clearOfWaiting, candidates, releasedEdges, reference, horizon, stuffing, planned}
 use Rattle.slots.specs.Slots.{taskSound, slotSound, together, sound, named, known, withBooked, agedTo, allAgedTo, withoutNamed, begunNamed}
-use Rattle.lookups.specs.Lookups.{horizonList, stripWords, busyColumns}
+use Rattle.lookups.specs.Lookups.{horizonList, stripNumbers, busyColumns}
 use Rattle.board.specs.Answers.{told}
 use Rattle.board.specs.Calls.{orRefused, freshBoard, created, withTask, taken, answered, submitted, boardAt, clocked, withdrawn, remaining, opened, openedBuffer, listed, listedBuffer, counted}
 use Rattle.board.specs.Refusals.{refusal, refusedCreate, refusedSubmit, refusedInstant, refusedWithdraw, refusedOpenings, refusedHorizon}
@@ -34,11 +34,11 @@ unfolding meets covers holds phaseAt stamped zeros booked join runs better bestF
 open-planners = tt
 
 open-lookups : Unit {0}
-unfolding taskSound slotSound together sound named known withBooked agedTo allAgedTo withoutNamed begunNamed horizonList stripWords busyColumns
+unfolding taskSound slotSound together sound named known withBooked agedTo allAgedTo withoutNamed begunNamed horizonList stripNumbers busyColumns
 open-lookups = tt
 
 open-board : Unit {0}
-unfolding told orRefused freshBoard created withTask taken answered submitted boardAt clocked withdrawn remaining pairWords opened openedBuffer listed listedBuffer counted
+unfolding told orRefused freshBoard created withTask taken answered submitted boardAt clocked withdrawn remaining pairNumbers opened openedBuffer listed listedBuffer counted
 open-board = tt
 
 open-refusals : Unit {0}

@@ -22,10 +22,10 @@ use Rattle.session.proofs.run.Reads as run
 use Rattle.table1.proofs.rows.Reads as rows
 use Rattle.lines.proofs.read.Reads as line
 use Rattle.questions.proofs.read.Reads as question
-use Rattle.shown.proofs.put_answer.Reads as put-answer
-use Rattle.shown.proofs.put_board.Reads as put-board
-use Rattle.shown.proofs.put_halt.Reads as put-halt
-use Rattle.shown.proofs.put_stamped.Reads as put-stamped
+use Rattle.board_text.proofs.put_answer.Reads as put-answer
+use Rattle.board_text.proofs.put_board.Reads as put-board
+use Rattle.board_text.proofs.put_halt.Reads as put-halt
+use Rattle.board_text.proofs.put_stamped.Reads as put-stamped
 
 -- two things that are the same third
 one : {A : Type 0} {x y z : A} → x ≡ z → y ≡ z → x ≡ y

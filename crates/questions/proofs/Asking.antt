@@ -4,7 +4,7 @@ use mathlib.Core.Path.{_≡_}
 use mathlib.Core.Bool.{true, false}
 use mathlib.Core.List.{List, [], _∷_}
 use borrow.Author.Tests.{ne-eqb}
-use Rattle.wording.specs.Wording.{same, wrong, nth}
+use Rattle.tokens.specs.Tokens.{same, wrong, nth}
 use Rattle.questions.specs.declared.Question.{Question}
 use Rattle.questions.specs.declared.Question.the-variants.{Wrong, Horizon, Busy, Board, Stamp}
 use Rattle.questions.specs.Questions.{rightOr, openingsAsked, askedBy, horizonName, busyName, openingsName, boardName, stampName}

@@ -4,7 +4,7 @@ use mathlib.Core.Bool.{cond}
 use mathlib.Core.List.{List, [], _∷_}
 use lib.Dec.{eqb}
 use Rattle.tasks.specs.declared.Submission.{Submission}
-use Rattle.wording.specs.Wording.{words, firstWord, otherWords, same, wrong, nth}
+use Rattle.tokens.specs.Tokens.{words, firstWord, otherWords, same, wrong, nth}
 use Rattle.questions.specs.declared.Question.{Question}
 use Rattle.questions.specs.declared.Question.the-variants.{Wrong, Horizon, Busy, Openings, Board, Stamp}
 

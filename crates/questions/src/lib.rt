@@ -3,7 +3,7 @@ ghost use mathlib.Core.Path.{_≡_};
 ghost use Prim.Native.Nat.{_≤_};
 ghost use mathlib.Core.List.{[], _∷_};
 ghost use lib.ListN.{length, drop};
-ghost use Rattle.wording.specs.Wording.{words, nth};
+ghost use Rattle.tokens.specs.Tokens.{words, nth};
 ghost use Rattle.questions.specs.declared.Question.the-variants.{Wrong, Busy, Stamp};
 ghost use Rattle.questions.specs.Questions.{rightOr, openingsAsked, asks};
 use tasks::Submission;
@@ -28,7 +28,7 @@ fn alone(text: &[u8], at: usize, question: Question) -> Question
     ensures { λ r. ⌜ r ≡ rightOr [] (words (drop at (now (text .entry)))) question Wrong ⌝ }
 {
     let mosts: [u32; 1] = [0];
-    let n = wording::read_numbers(text, at, &mosts[0..0]);
+    let n = tokens::read_numbers(text, at, &mosts[0..0]);
     if n.wrong != 0 {
         return Question::Wrong;
     }
@@ -40,7 +40,7 @@ fn busy(text: &[u8], at: usize) -> Question
     ensures { λ r. ⌜ r ≡ rightOr (4294967295 ∷ []) (words (drop at (now (text .entry)))) (Busy (nth 0 (words (drop at (now (text .entry)))))) Wrong ⌝ }
 {
     let mosts: [u32; 1] = [u32::MAX];
-    let n = wording::read_numbers(text, at, &mosts);
+    let n = tokens::read_numbers(text, at, &mosts);
     if n.wrong != 0 {
         return Question::Wrong;
     }
@@ -53,7 +53,7 @@ fn stamp(text: &[u8], at: usize) -> Question
     ensures { λ r. ⌜ r ≡ rightOr (4294967295 ∷ []) (words (drop at (now (text .entry)))) (Stamp (nth 0 (words (drop at (now (text .entry)))))) Wrong ⌝ }
 {
     let mosts: [u32; 1] = [u32::MAX];
-    let n = wording::read_numbers(text, at, &mosts);
+    let n = tokens::read_numbers(text, at, &mosts);
     if n.wrong != 0 {
         return Question::Wrong;
     }
@@ -67,7 +67,7 @@ fn openings(text: &[u8], at: usize) -> Question
     ensures { λ r. ⌜ r ≡ openingsAsked (words (drop at (now (text .entry)))) ⌝ }
 {
     let mosts: [u32; 7] = [65535, 65535, u32::MAX, u32::MAX, u32::MAX, 65535, u32::MAX];
-    let four = wording::read_numbers(text, at, &mosts[0..4]);
+    let four = tokens::read_numbers(text, at, &mosts[0..4]);
     if four.wrong == 0 {
         let v = four.values;
         let task = Submission {
@@ -84,7 +84,7 @@ fn openings(text: &[u8], at: usize) -> Question
             most: 1000,
         };
     }
-    let six = wording::read_numbers(text, at, &mosts[0..6]);
+    let six = tokens::read_numbers(text, at, &mosts[0..6]);
     if six.wrong == 0 {
         let v = six.values;
         let task = Submission {
@@ -101,7 +101,7 @@ fn openings(text: &[u8], at: usize) -> Question
             most: 1000,
         };
     }
-    let seven = wording::read_numbers(text, at, &mosts);
+    let seven = tokens::read_numbers(text, at, &mosts);
     if seven.wrong == 0 {
         let v = seven.values;
         let task = Submission {
@@ -125,23 +125,23 @@ fn openings(text: &[u8], at: usize) -> Question
 pub fn read(text: &[u8]) -> Question
     ensures { λ r. ⌜ r ≡ asks (now (text .entry)) ⌝ }
 {
-    let word = wording::next(text, 0);
+    let word = tokens::next(text, 0);
     let from = word.from;
     let to = word.to;
     let name = &text[from..to];
-    if wording::is_name(name, b"horizon") {
+    if tokens::is_name(name, b"horizon") {
         return alone(text, to, Question::Horizon);
     }
-    if wording::is_name(name, b"busy") {
+    if tokens::is_name(name, b"busy") {
         return busy(text, to);
     }
-    if wording::is_name(name, b"openings") {
+    if tokens::is_name(name, b"openings") {
         return openings(text, to);
     }
-    if wording::is_name(name, b"board") {
+    if tokens::is_name(name, b"board") {
         return alone(text, to, Question::Board);
     }
-    if wording::is_name(name, b"stamp") {
+    if tokens::is_name(name, b"stamp") {
         return stamp(text, to);
     }
     Question::Wrong

@@ -9,7 +9,7 @@ use libc::STDERR_FILENO;
 use libc::STDIN_FILENO;
 use libc::STDOUT_FILENO;
 use lines::Line;
-use wording::Sort;
+use tokens::Sort;
 
 // Where the program stands: the bytes from `from` to `to` wait, and so do `used` bytes of records; the lines and the records
 // so far; whether to go on.
@@ -266,7 +266,7 @@ fn step(bytes: &mut [u8], out: &mut [u8], s: State) -> State
 {
     let from = s.from;
     let to = s.to;
-    let end = from + wording::find(&bytes[from..to], Sort::Newline);
+    let end = from + tokens::find(&bytes[from..to], Sort::Newline);
     if end < to {
         return taken(out, &bytes[from..end], ahead(s, end + 1));
     }

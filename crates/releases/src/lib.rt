@@ -23,7 +23,7 @@ fn raise(row: &mut [u32; 256], finish: u32, left: u32, past: u32)
 }
 
 // The row of release times, column 1 first: now, raised to the finishes over each live task's columns, the first to finish first.
-pub fn releases(live: &Live, count: usize, width: u32, clock: u32) -> [u32; 256]
+pub fn gather(live: &Live, count: usize, width: u32, clock: u32) -> [u32; 256]
     requires { ⌜ OnDevice width count (now live) × Falling count (now live) ⌝ }
     ensures { λ r. ⌜ ((k : ℕ) → k < 256 → getD r k 0 ≡ release clock (tasksOf count (now (live .entry))) (suc k)) ⌝ }
 {
@@ -43,7 +43,7 @@ pub fn releases(live: &Live, count: usize, width: u32, clock: u32) -> [u32; 256]
 
 // The row pressed into steps of equal release, left to right: the first column past each, and its release. Gives their number.
 // Each column is stored at `n`, and `n` goes past it only where the release changes.
-pub fn steps<'a>(
+pub fn press<'a>(
     row: &'a [u32; 256],
     width: u32,
     past: &'a mut [u32; 256],

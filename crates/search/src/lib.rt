@@ -14,7 +14,7 @@ use planners::Window;
 
 // The search. With `whole` it is Full; without, the left edges of the free intervals are tried, as Stuffing does, and Reference is that
 // with no time after now.
-pub fn search<'a>(live: &'a Live, masks: &'a Masks, count: usize, q: Window, whole: bool) -> Found
+pub fn find<'a>(live: &'a Live, masks: &'a Masks, count: usize, q: Window, whole: bool) -> Found
     requires { ⌜ Lent (q .width) count (now live) (now masks) × Fits q ⌝ }
     ensures { λ r. ⌜ r ≡ foundOf (cond whole (full (q .width) (q .clock) (tasksOf count (now (live .entry))) (wanted q)) (stuffing (q .width) (q .clock) (tasksOf count (now (live .entry))) (wanted q))) ⌝ }
 {

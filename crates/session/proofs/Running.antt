@@ -18,7 +18,7 @@ use Rattle.slots.specs.Slots.{sound, allAgedTo}
 use Rattle.slots.proofs.Soundness.{sound-out}
 use Rattle.slots.proofs.Ageing.{aged-now}
 use Rattle.survey.specs.declared.Findings.{Findings}
-use Rattle.pairs.specs.Pairs.{Stood}
+use Rattle.soundness.specs.Tested.{Stood}
 use Rattle.events.specs.declared.Event.{Event}
 use Rattle.events.specs.declared.Reading.{Reading}
 use Rattle.events.specs.declared.Reading.the-variants.{End, Got, CutShort, Unknown}
@@ -30,7 +30,7 @@ use Rattle.steps.specs.declared.Change.{Change}
 use Rattle.steps.specs.declared.Change.the-variants.{Nothing, Booked, Freed, Cleared}
 use Rattle.steps.specs.declared.Done.{Done}
 use Rattle.session.specs.declared.Whole.{Whole}
-use Rattle.session.specs.Recording.{mostEvents, Line, lineOf, Outcome, outcome, Run, still, ranFrom, lineWords, roomFor, ran, ranBuffer}
+use Rattle.session.specs.Recording.{mostEvents, Line, lineOf, Outcome, outcome, Run, still, ranFrom, lineNumbers, roomFor, ran, ranBuffer}
 use Rattle.steps.specs.Standing.{stateOf, Keeps, Follows, asBooked, changed}
 use Rattle.session.specs.Standing.{Took}
 
@@ -56,13 +56,13 @@ ran-none (suc m) b n bytes f = go (readFrom bytes) refl
     go (CutShort k) e = rw (e, ranFrom)
     go (Unknown k) e = rw (e, ranFrom)
 
-words-append : (xs ys : List Line) → lineWords (xs ++ ys) ≡ lineWords xs ++ lineWords ys
-unfolding lineWords
+words-append : (xs ys : List Line) → lineNumbers (xs ++ ys) ≡ lineNumbers xs ++ lineNumbers ys
+unfolding lineNumbers
 words-append [] ys = refl
 words-append (x ∷ xs) ys = ap (λ l. x .event ∷ x .kind ∷ x .answer ∷ x .column ∷ x .start ∷ x .finish ∷ l) (words-append xs ys)
 
-words-length : (xs : List Line) → length (lineWords xs) ≡ length xs * 6
-unfolding lineWords
+words-length : (xs : List Line) → length (lineNumbers xs) ≡ length xs * 6
+unfolding lineNumbers
 words-length [] = refl
 words-length (x ∷ xs) = let h = words-length xs in omega arith
 
@@ -93,7 +93,7 @@ pub record Running (b : State) (number most : ℕ) (bytes lent answers : List �
   pub lines : ranFrom most b number bytes .lines ≡ done ++ ranFrom (most - n) (stateOf slots d) (number + n) (drop at bytes) .lines
   pub state : ranFrom most b number bytes .state ≡ ranFrom (most - n) (stateOf slots d) (number + n) (drop at bytes) .state
   pub taken : ranFrom most b number bytes .taken ≡ at + ranFrom (most - n) (stateOf slots d) (number + n) (drop at bytes) .taken
-  pub words : answers ≡ sets lent 0 (lineWords done)
+  pub words : answers ≡ sets lent 0 (lineNumbers done)
   pub count : n ≡ length done
   pub upto : n ≤ turns
   pub bound : turns ≤ most
@@ -104,7 +104,7 @@ pub record Running (b : State) (number most : ℕ) (bytes lent answers : List �
 pub run-begin : (tasks : List Task) (clock : ℕ) (D : Device) (number most : ℕ) (bytes lent live masks : List ℕ) (v : Findings) → Stood D clock tasks live masks v
     → let d : Brief = record { clock = clock; device = D; count = v .count; used = v .used; sound = v .sound } in
     Running (stateOf tasks d) number most bytes lent lent tasks live masks d most 0 0
-unfolding lineWords
+unfolding lineNumbers
 run-begin tasks clock D number most bytes lent live masks v o = record {
   slots = tasks;
   keeps = record {
@@ -153,7 +153,7 @@ module _ {b : State} {number most : ℕ} {bytes lent answers : List ℕ} {tasks 
   rest = ranFrom (most - n) now (number + n) (drop at bytes)
 
   pub same-room : length answers ≡ length lent
-  same-room = ap length (o .words) ∙ length-sets lent 0 (lineWords (o .done))
+  same-room = ap length (o .words) ∙ length-sets lent 0 (lineNumbers (o .done))
 
   -- NO WHOLE RECORD IS LEFT
   pub run-stop : {w : Whole} → Took (drop at bytes) w → w .size ≡ 0 → Running b number most bytes lent answers tasks live masks d n at n
@@ -214,7 +214,7 @@ module _ {b : State} {number most : ℕ} {bytes lent answers : List ℕ} {tasks 
         there = λ i. record { board = record { tasks = out .state .board .tasks; now = sym (g .clock) i; device = sym (g .device) i } }
 
     pub run-more : Running b number most bytes lent after next live′ masks′ (e .brief) turns (at + w .size) (n + 1)
-    unfolding lineWords lineOf
+    unfolding lineNumbers lineOf
     run-more = record {
       slots = out .state .board .tasks;
       keeps = g .keeps;
@@ -225,13 +225,13 @@ module _ {b : State} {number most : ℕ} {bytes lent answers : List ℕ} {tasks 
       state = o .state ∙ ap (λ (x : Run). x .state) one;
       taken = o .taken ∙ ap (λ (x : Run). at + x .taken) one ∙ (let y : at + (w .size + later .taken) ≡ at + w .size + later .taken = omega arith in y);
       words =
-          let behind : n * 6 ≡ 0 + length (lineWords (o .done)) = omega (arith, words-length (o .done), o .count) in
+          let behind : n * 6 ≡ 0 + length (lineNumbers (o .done)) = omega (arith, words-length (o .done), o .count) in
           let event : number + n + 1 ≡ suc (number + n) = omega arith in
           let six : List ℕ = (number + n + 1) ∷ kind ∷ e .number ∷ e .column ∷ e .start ∷ e .finish ∷ [] in
-          let told : six ≡ lineWords (line ∷ []) = λ i. event i ∷ k i ∷ g .number i ∷ g .column i ∷ g .start i ∷ g .finish i ∷ [] in
+          let told : six ≡ lineNumbers (line ∷ []) = λ i. event i ∷ k i ∷ g .number i ∷ g .column i ∷ g .start i ∷ g .finish i ∷ [] in
           a ∙ ap (λ x. sets x (n * 6) six) (o .words)
-          ∙ ap₂ (λ x y. sets (sets lent 0 (lineWords (o .done))) x y) behind told
-          ∙ sets-append lent 0 (lineWords (o .done)) (lineWords (line ∷ [])) ∙ ap (sets lent 0) (sym (words-append (o .done) (line ∷ [])));
+          ∙ ap₂ (λ x y. sets (sets lent 0 (lineNumbers (o .done))) x y) behind told
+          ∙ sets-append lent 0 (lineNumbers (o .done)) (lineNumbers (line ∷ [])) ∙ ap (sets lent 0) (sym (words-append (o .done) (line ∷ [])));
       count = omega (arith, length-append (o .done) (line ∷ []), o .count);
       upto = omega arith;
       bound = o .bound;
@@ -261,13 +261,13 @@ module _ {b : State} {number most : ℕ} {bytes lent answers : List ℕ} {tasks 
     run-end = (
       rw (← m) (λ i. record { count = counted i; taken = bytes-taken i; state = follows i }),
       (
-        rw (← m) (o .words ∙ over ∙ ap (λ x. overFront (lineWords x) lent) (sym every)),
+        rw (← m) (o .words ∙ over ∙ ap (λ x. overFront (lineNumbers x) lent) (sym every)),
         (omega (arith, o .upto, o .bound), o .inside, λ x. omega (arith, o .upto, o .bound)),
       ),
     )
       where
-        over : sets lent 0 (lineWords (o .done)) ≡ overFront (lineWords (o .done)) lent
-        over = sets-eq (lineWords (o .done)) lent 0 (omega (arith, words-length (o .done), o .count, o .upto, o .bound)) ∙ rw zero-add
+        over : sets lent 0 (lineNumbers (o .done)) ≡ overFront (lineNumbers (o .done)) lent
+        over = sets-eq (lineNumbers (o .done)) lent 0 (omega (arith, words-length (o .done), o .count, o .upto, o .bound)) ∙ rw zero-add
 
         counted : n ≡ length (ranFrom most b number bytes .lines)
         counted = o .count ∙ sym (ap length every)

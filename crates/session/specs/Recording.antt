@@ -73,9 +73,9 @@ ranFrom (suc room) s n bytes =
     ]
 
 -- a line in six words
-unfoldable pub lineWords : List Line → List ℕ
-lineWords [] = []
-lineWords (l ∷ ls) = l .event ∷ l .kind ∷ l .answer ∷ l .column ∷ l .start ∷ l .finish ∷ lineWords ls
+unfoldable pub lineNumbers : List Line → List ℕ
+lineNumbers [] = []
+lineNumbers (l ∷ ls) = l .event ∷ l .kind ∷ l .answer ∷ l .column ∷ l .start ∷ l .finish ∷ lineNumbers ls
 
 -- how many events more: as many as six words a line leave room for, and not past the last event
 abbrev pub roomFor : ℕ → ℕ → ℕ
@@ -89,4 +89,4 @@ ran s n bytes words =
 
 -- and what the lent buffer holds: words beyond are left as found
 unfoldable pub ranBuffer : State → ℕ → List ℕ → List ℕ → List ℕ
-ranBuffer s n bytes answers = overFront (lineWords (ranFrom (roomFor (length answers) n) s n bytes .lines)) answers
+ranBuffer s n bytes answers = overFront (lineNumbers (ranFrom (roomFor (length answers) n) s n bytes .lines)) answers

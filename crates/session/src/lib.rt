@@ -114,7 +114,7 @@ pub fn run(state: State, number: u32, bytes: &[u8], answers: &mut [u32]) -> Ran
     let on = board.device;
     let mut live = [0u32; 384];
     let mut masks = [0u64; 256];
-    let v = pairs::stand(on, board.now, tasks, &mut live, &mut masks);
+    let v = soundness::stand(on, board.now, tasks, &mut live, &mut masks);
     let mut d = Brief {
         clock: board.now,
         device: on,

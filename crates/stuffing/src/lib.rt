@@ -127,7 +127,7 @@ fn meets_any(
 
 // The first candidate without a conflict ends both walks: through the visited times, and through the free intervals of each
 // in best-fit order.
-pub fn stuffing(live: &Live, count: usize, q: Window) -> Found
+pub fn find(live: &Live, count: usize, q: Window) -> Found
     requires { ⌜ OnDevice (q .width) count (now live) × Falling count (now live) × Apart count (now live) × Fits q ⌝ }
     ensures { λ r. ⌜ r ≡ foundOf (stuffing (q .width) (q .clock) (tasksOf count (now (live .entry))) (wanted q)) ⌝ }
 {

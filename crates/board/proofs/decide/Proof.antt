@@ -26,8 +26,8 @@ cast-t16 c = search needs
 cast-t17 : tie.Need-cast-t17
 cast-t17 c = search needs
 
-place-requires : tie.Need-place-requires
-place-requires c κs =
+find-requires : tie.Need-find-requires
+find-requires c κs =
     let n = c .before .before .before in
     let s = n .before .before in
     let a = s .args in
@@ -50,7 +50,7 @@ add-t22 c =
     let s = n .before .before in
     let a = s .args in
     let o = settled (boardOf (s .pre .slots) (a .clock) (a .on)) (a .planner) (a .a) _ _ _ (s .pre .kept) (s .pre .lowest)
-    (n .before .among .ensures) (n .refuse-submission .ensures) (omega arith) (p .place .ensures) (c .before .before .found .given .1) in
+    (n .before .among .ensures) (n .refuse-submission .ensures) (omega arith) (p .find .ensures) (c .before .before .found .given .1) in
     omega (arith, o .fits)
 
 returns-2 : tie.Need-returns-2
@@ -59,7 +59,7 @@ returns-2 c = λ ks o l.
     let n = p .before .before .before .before in
     let a = n .before .before .args in
     rejected (boardOf ks (a .clock) (a .on)) (a .planner) (a .a) _ _ _ o l (n .before .among .ensures) (n .refuse-submission .ensures)
-    (omega arith) (p .place .ensures) (c .enum-told .given .1)
+    (omega arith) (p .find .ensures) (c .enum-told .given .1)
 
 returns-3 : tie.Need-returns-3
 returns-3 c = λ ks o l.
@@ -67,7 +67,7 @@ returns-3 c = λ ks o l.
     let n = p .before .before .before .before in
     let a = n .before .before .args in
     settled (boardOf ks (a .clock) (a .on)) (a .planner) (a .a) _ _ _ o l (n .before .among .ensures) (n .refuse-submission .ensures)
-    (omega arith) (p .place .ensures) (c .before .before .found .given .1) .same
+    (omega arith) (p .find .ensures) (c .before .before .found .given .1) .same
 
 pub decide-spec : {M : Type 1} → statement M
 decide-spec =
@@ -78,7 +78,7 @@ decide-spec =
     returns
     cast-t16
     cast-t17
-    place-requires
+    find-requires
     enum-told
     enum-known-found
     cast-t21

@@ -5,8 +5,8 @@ use mathlib.Core.Bool.{true, false}
 use mathlib.Core.List.{List}
 use native.Mathlib.Omega.{arith}
 use Rattle.text.specs.Text.{value}
-use Rattle.wording.specs.Wording.{same, fits}
-use Rattle.wording.proofs.Judged.{fits-most}
+use Rattle.tokens.specs.Tokens.{same, fits}
+use Rattle.tokens.proofs.Judged.{fits-most}
 use Rattle.lines.specs.Lines.{referenceName, horizonName, stuffingName, fullName}
 use Rattle.lines.proofs.Saying.{planner-0, planner-1, planner-2, planner-3, planner-4, planner-5}
 use borrow.Author.Needs.{needs}

@@ -3,7 +3,7 @@ use Prim.Native.Nat.{_-_, _≤_}
 use mathlib.Core.Path.{_≡_, ap, _∙_}
 use native.Mathlib.Omega.{arith}
 use lib.Seq.{length-take-le}
-use Rattle.wording.specs.Wording.{words, firstWord, otherWords}
+use Rattle.tokens.specs.Tokens.{words, firstWord, otherWords}
 use Rattle.lines.specs.Lines.{saidBy, says}
 use Rattle.lines.proofs.Saying.{before-comment}
 use borrow.Author.Needs.{needs}

@@ -4,9 +4,9 @@ use mathlib.Core.Path.{_≡_, sym, _∙_}
 use mathlib.Core.Bool.{true, false}
 use mathlib.Core.List.{List}
 use lib.ListN.{drop}
-use Rattle.wording.specs.Wording.{words, firstWord, otherWords, same, empty}
-use Rattle.wording.specs.Walks.{part}
-use Rattle.wording.proofs.Walking.{a-word}
+use Rattle.tokens.specs.Tokens.{words, firstWord, otherWords, same, empty}
+use Rattle.tokens.specs.Walks.{part}
+use Rattle.tokens.proofs.Walking.{a-word}
 use Rattle.lines.specs.Lines.{saidBy, boardName, submitName, clockName, withdrawName}
 use Rattle.lines.proofs.Saying.{said-nothing, said-board, said-submit, said-clock, said-withdraw, said-other}
 use borrow.Author.Needs.{needs}

@@ -4,9 +4,9 @@ use mathlib.Core.Path.{_≡_, sym, _∙_}
 use mathlib.Core.List.{List}
 use native.Mathlib.Omega.{arith}
 use lib.ListN.{drop}
-use Rattle.wording.specs.Wording.{words}
-use Rattle.wording.specs.Walks.{part}
-use Rattle.wording.proofs.Walking.{a-word}
+use Rattle.tokens.specs.Tokens.{words}
+use Rattle.tokens.specs.Walks.{part}
+use Rattle.tokens.proofs.Walking.{a-word}
 use Rattle.lines.specs.Lines.{plannerOf, submitBehind, submitLine}
 use Rattle.lines.proofs.Saying.{said-wrong, said-right, submit-planner, submit-numbers, submit-asks}
 use borrow.Author.Needs.{needs}

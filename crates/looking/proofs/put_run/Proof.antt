@@ -4,7 +4,7 @@ use mathlib.Core.Path.{_≡_, refl, ap, _∙_}
 use native.Mathlib.Omega.{arith}
 use lib.ListN.{length, set, length-set}
 use lib.Seq.{sets}
-use Rattle.planners.specs.Openings.{pairWords}
+use Rattle.planners.specs.Openings.{pairNumbers}
 use Rattle.looking.specs.Looking.{runAt}
 use Rattle.looking.proofs.Runs.{put-none, put-one}
 use borrow.Author.Needs.{needs}
@@ -13,7 +13,7 @@ use Rattle.looking.proofs.put_run.Tie as tie
 
 abbrev Inv-loop : tie.InvT-loop
 Inv-loop buffer₀ at t from to i₀ c₀ buffer i c =
-    (i ≡ at + 2 * (c - from)) × (from ≤ c) × (c ≤ to) × (length buffer ≡ length buffer₀) × (buffer ≡ sets buffer₀ at (pairWords (runAt t from (c - from))))
+    (i ≡ at + 2 * (c - from)) × (from ≤ c) × (c ≤ to) × (length buffer ≡ length buffer₀) × (buffer ≡ sets buffer₀ at (pairNumbers (runAt t from (c - from))))
 
 abbrev μ-loop : tie.MeasureT-loop
 μ-loop buffer₀ at t from to i₀ c₀ buffer i c = to - c
@@ -65,7 +65,7 @@ returns c =
     let l = c .before .loop in
     let a = c .before .before .args in
     let e : l .c ≡ a .to = omega (arith, l .inv .2) in
-    l .inv .4 ∙ ap (λ k. sets (a .buffer .now) (a .at) (pairWords (runAt (a .t) (a .from) (k - a .from)))) e
+    l .inv .4 ∙ ap (λ k. sets (a .buffer .now) (a .at) (pairNumbers (runAt (a .t) (a .from) (k - a .from)))) e
 
 pub put-run-spec : {M : Type 1} → statement M
 put-run-spec =

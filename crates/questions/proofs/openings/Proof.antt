@@ -4,7 +4,7 @@ use mathlib.Core.Path.{_≡_, _∙_}
 use mathlib.Core.List.{List, [], _∷_}
 use native.Mathlib.Omega.{arith}
 use lib.ListN.{drop}
-use Rattle.wording.specs.Wording.{words}
+use Rattle.tokens.specs.Tokens.{words}
 use Rattle.questions.specs.declared.Question.{Question}
 use Rattle.questions.specs.Questions.{rightOr, openingsAsked, taskOf}
 use Rattle.questions.proofs.Asking.{right-yes, right-no}

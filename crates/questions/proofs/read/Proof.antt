@@ -4,9 +4,9 @@ use mathlib.Core.Path.{_≡_, sym, _∙_}
 use mathlib.Core.Bool.{true, false}
 use mathlib.Core.List.{List}
 use lib.ListN.{drop}
-use Rattle.wording.specs.Wording.{words, same}
-use Rattle.wording.specs.Walks.{part}
-use Rattle.wording.proofs.Walking.{a-word}
+use Rattle.tokens.specs.Tokens.{words, same}
+use Rattle.tokens.specs.Walks.{part}
+use Rattle.tokens.proofs.Walking.{a-word}
 use Rattle.questions.specs.Questions.{askedBy, asks, horizonName, busyName, openingsName, boardName, stampName}
 use Rattle.questions.proofs.Asking.{asked-horizon, asked-busy, asked-openings, asked-board, asked-stamp, asked-other}
 use borrow.Author.Needs.{needs}

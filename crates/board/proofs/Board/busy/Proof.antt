@@ -25,11 +25,11 @@ returns-2 c =
     let well = not-false _ (n .before .if1 .left) in
     sym (counted-refused _ _ _ (t .test .ensures .kept well .stands) (sym (t .test .ensures .sound) ∙ well) _ (n .refuse-instant .ensures) (c .if2 .taken))
 
-cast-busy : tie.Need-cast-busy
-cast-busy c = search needs
+cast-count : tie.Need-cast-count
+cast-count c = search needs
 
-busy-requires : tie.Need-busy-requires
-busy-requires c κs =
+count-requires : tie.Need-count-requires
+count-requires c κs =
     let e = c .before .before .before .before in
     let t = e .before .before in
     let well = not-false _ (e .if1 .left) in
@@ -40,7 +40,7 @@ returns-3 c =
     let n = c .before .before .before .before in
     let t = n .before .before .before in
     let well = not-false _ (n .before .if1 .left) in
-    counted-done _ _ _ (t .test .ensures .kept well .stands) (sym (t .test .ensures .sound) ∙ well) _ (n .refuse-instant .ensures) (omega arith) (c .busy .ensures)
+    counted-done _ _ _ (t .test .ensures .kept well .stands) (sym (t .test .ensures .sound) ∙ well) _ (n .refuse-instant .ensures) (omega arith) (c .count .ensures)
 
 pub busy-spec : {M : Type 1} → statement M
 busy-spec =
@@ -50,6 +50,6 @@ busy-spec =
     returns
     refuse-instant-requires
     returns-2
-    cast-busy
-    busy-requires
+    cast-count
+    count-requires
     returns-3)

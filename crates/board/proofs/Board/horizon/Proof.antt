@@ -16,11 +16,11 @@ returns c =
     let a = t .before .before .before .before .args in
     listed-unsound (a .self) (a .buffer .now) (sym (t .test .ensures .sound) ∙ not-true _ (c .if1 .taken))
 
-cast-strips : tie.Need-cast-strips
-cast-strips c = search needs
+cast-list : tie.Need-cast-list
+cast-list c = search needs
 
-strips-requires : tie.Need-strips-requires
-strips-requires c κs =
+list-requires : tie.Need-list-requires
+list-requires c κs =
     let e = c .before .before .before in
     let t = e .before .before in
     let k = t .test .ensures .kept (not-false _ (e .if1 .left)) in
@@ -39,7 +39,7 @@ returns-2 c =
     let t = e .before .before in
     let a = t .before .before .before .before .args in
     let k = t .test .ensures .kept (not-false _ (e .if1 .left)) in
-    listed-short (a .self) _ _ (k .stands) (k .good) (a .buffer .now) (l .strips .ensures .0) (l .strips .ensures .1 .0) (omega arith)
+    listed-short (a .self) _ _ (k .stands) (k .good) (a .buffer .now) (l .list .ensures .0) (l .list .ensures .1 .0) (omega arith)
 
 same-length-2 : tie.Need-same-length-2
 same-length-2 c = search needs
@@ -51,7 +51,7 @@ returns-3 c =
     let t = e .before .before in
     let a = t .before .before .before .before .args in
     let k = t .test .ensures .kept (not-false _ (e .if1 .left)) in
-    listed-done (a .self) _ _ (k .stands) (k .good) (a .buffer .now) (l .strips .ensures .0) (l .strips .ensures .1 .0) (omega arith)
+    listed-done (a .self) _ _ (k .stands) (k .good) (a .buffer .now) (l .list .ensures .0) (l .list .ensures .1 .0) (omega arith)
 
 pub horizon-spec : {M : Type 1} → statement M
 horizon-spec =
@@ -59,8 +59,8 @@ horizon-spec =
     (tie.spec
     test-requires
     returns
-    cast-strips
-    strips-requires
+    cast-list
+    list-requires
     mul-if2
     same-length
     returns-2
