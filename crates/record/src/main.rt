@@ -13,7 +13,7 @@ use tokens::Sort;
 
 // Where the program stands: the bytes from `from` to `to` wait, and so do `used` bytes of records; the lines and the records
 // so far; whether to go on.
-struct State {
+struct Stream {
     from: usize,
     to: usize,
     used: usize,
@@ -99,7 +99,7 @@ fn complain_of_length(line: u64, records: u64) {
 }
 
 // The records that wait are written; where that fails, standard error says so and the run is over.
-fn flushed(out: &[u8], s: State) -> State
+fn flushed(out: &[u8], s: Stream) -> Stream
     requires { ⌜ (length (now out) ≡ 65536) × (s .used ≤ 65536) × (s .from ≤ s .to) × (s .to ≤ 65536) ⌝ }
     ensures { λ r. ⌜ (r .used ≡ 0) × Stands r ⌝ }
 {
@@ -108,7 +108,7 @@ fn flushed(out: &[u8], s: State) -> State
     if !done {
         os::fail(b"record: cannot write");
     }
-    State {
+    Stream {
         from: s.from,
         to: s.to,
         used: 0,
@@ -118,11 +118,11 @@ fn flushed(out: &[u8], s: State) -> State
     }
 }
 
-fn stopped(s: State) -> State
+fn stopped(s: Stream) -> Stream
     requires { ⌜ Stands s ⌝ }
     ensures { λ r. ⌜ Stands r ⌝ }
 {
-    State {
+    Stream {
         from: s.from,
         to: s.to,
         used: s.used,
@@ -145,7 +145,7 @@ fn put(out: &mut [u8], used: usize, event: Event) -> usize
 }
 
 // A record behind those that wait. There is room for it, as no record is longer than 18 bytes.
-fn kept(out: &mut [u8], s: State, event: Event) -> State
+fn kept(out: &mut [u8], s: Stream, event: Event) -> Stream
     requires { ⌜ (length (now out) ≡ 65536) × Stands s ⌝ }
     ensures { λ r. ⌜ Stands r ⌝ }
 {
@@ -154,7 +154,7 @@ fn kept(out: &mut [u8], s: State, event: Event) -> State
         say(b"record: no room for a record\n");
         return stopped(s);
     }
-    let next = State {
+    let next = Stream {
         from: s.from,
         to: s.to,
         used: s.used + n,
@@ -169,7 +169,7 @@ fn kept(out: &mut [u8], s: State, event: Event) -> State
 }
 
 // "nothing of it or after it is written"
-fn refused(out: &[u8], s: State, kind: u8, word: usize) -> State
+fn refused(out: &[u8], s: Stream, kind: u8, word: usize) -> Stream
     requires { ⌜ (length (now out) ≡ 65536) × Stands s ⌝ }
     ensures { λ r. ⌜ Stands r ⌝ }
 {
@@ -181,7 +181,7 @@ fn refused(out: &[u8], s: State, kind: u8, word: usize) -> State
 }
 
 // One line.
-fn taken(out: &mut [u8], text: &[u8], s: State) -> State
+fn taken(out: &mut [u8], text: &[u8], s: Stream) -> Stream
     requires { ⌜ (length (now out) ≡ 65536) × Stands s ⌝ }
     ensures { λ r. ⌜ Stands r ⌝ }
 {
@@ -194,11 +194,11 @@ fn taken(out: &mut [u8], text: &[u8], s: State) -> State
 }
 
 // The next line begins at a place.
-fn ahead(s: State, from: usize) -> State
+fn ahead(s: Stream, from: usize) -> Stream
     requires { ⌜ (from ≤ s .to) × Stands s ⌝ }
     ensures { λ r. ⌜ Stands r ⌝ }
 {
-    State {
+    Stream {
         from: from,
         to: s.to,
         used: s.used,
@@ -209,7 +209,7 @@ fn ahead(s: State, from: usize) -> State
 }
 
 // The end of the input also ends a line.
-fn ended(out: &mut [u8], text: &[u8], s: State) -> State
+fn ended(out: &mut [u8], text: &[u8], s: Stream) -> Stream
     requires { ⌜ (length (now out) ≡ 65536) × Stands s ⌝ }
     ensures { λ r. ⌜ Stands r ⌝ }
 {
@@ -219,7 +219,7 @@ fn ended(out: &mut [u8], text: &[u8], s: State) -> State
 }
 
 // A line that the buffer does not hold.
-fn too_long(out: &[u8], s: State) -> State
+fn too_long(out: &[u8], s: Stream) -> Stream
     requires { ⌜ (length (now out) ≡ 65536) × Stands s ⌝ }
     ensures { λ r. ⌜ Stands r ⌝ }
 {
@@ -231,7 +231,7 @@ fn too_long(out: &[u8], s: State) -> State
 }
 
 // More of the input behind what is left of it. A read that fails is not the end.
-fn read_on(bytes: &mut [u8], out: &mut [u8], s: State) -> State
+fn read_on(bytes: &mut [u8], out: &mut [u8], s: Stream) -> Stream
     requires { ⌜ (length (now bytes) ≡ 65536) × (length (now out) ≡ 65536) × Stands s ⌝ }
     ensures { λ r. ⌜ Stands r ⌝ }
 {
@@ -249,7 +249,7 @@ fn read_on(bytes: &mut [u8], out: &mut [u8], s: State) -> State
         return ended(out, &bytes[0..left], s);
     }
     let n = io::count(got, &bytes[left..]);
-    State {
+    Stream {
         from: 0,
         to: left + n,
         used: s.used,
@@ -260,7 +260,7 @@ fn read_on(bytes: &mut [u8], out: &mut [u8], s: State) -> State
 }
 
 // The next line where it is whole, or more of the input.
-fn step(bytes: &mut [u8], out: &mut [u8], s: State) -> State
+fn step(bytes: &mut [u8], out: &mut [u8], s: Stream) -> Stream
     requires { ⌜ (length (now bytes) ≡ 65536) × (length (now out) ≡ 65536) × Stands s ⌝ }
     ensures { λ r. ⌜ Stands r ⌝ }
 {
@@ -276,7 +276,7 @@ fn step(bytes: &mut [u8], out: &mut [u8], s: State) -> State
 fn main() {
     let mut bytes = io::large_buffer();
     let mut out = io::large_buffer();
-    let mut s = State {
+    let mut s = Stream {
         from: 0,
         to: 0,
         used: 0,
