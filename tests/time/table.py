@@ -68,7 +68,7 @@ def machine():
 
 print("machine:", machine())
 print(subprocess.run(["rustc", "--version"], capture_output=True, text=True).stdout.strip())
-print("time of ours / time of Rust; a round: the clock moved on without a test of the board, and a submission with it; below 1 ours is faster")
+print("time of ours / time of Rust; a round: the clock moved on and a task submitted, by the public calls, which test the board each; the Rust program tests none; below 1 ours is faster")
 print(f"{'workload':28}" + "".join(f"{p:>11}" for p in PLANNERS))
 all_agree, submission = True, 0.0
 for w, label in enumerate(WORKLOADS):
