@@ -1,4 +1,4 @@
-// The program `ask` of issue 9: event records on standard input, read in silence, and then the answer to the question in its
+// The program `ask`: event records on standard input, read in silence, and then the answer to the question in its
 // arguments about the board as it stands.
 ghost use mathlib.Core.Path.{_≡_};
 ghost use Prim.Native.Nat.{_+_, _-_, _*_, _≤_, _<_};
