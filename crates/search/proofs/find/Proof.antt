@@ -4,9 +4,9 @@ use mathlib.Core.Path.{_≡_}
 use mathlib.Core.Logic.{⊎-elim}
 use native.Mathlib.Omega.{arith}
 use lib.ListN.{length}
-use Rattle.live.specs.Live.{tasksOf, After}
+use Rattle.live.specs.Live.{tasksOf, After, NextFinish}
 use Rattle.live.proofs.Laws.{after-on}
-use Rattle.search.proofs.Fit.{fit-eroded}
+use Rattle.search.proofs.Fit.{Fit, fit-eroded}
 use Rattle.search.proofs.Walk.{Stands, Blocked, walk-begin, walk-first, walk-edge, walk-over, walk-on, blocked-none, blocked-edges}
 use borrow.Author.Needs.{needs}
 use Rattle.search.proofs.find.Statement.{statement}
@@ -56,93 +56,92 @@ next-finish-requires c κs = search needs
 after-requires-2 : tie.Need-after-requires-2 Inv-walk μ-walk
 after-requires-2 c κs = search needs
 
+-- where the columns of a stay are known, those that begin w free ones among them, and the first of these
+abbrev Found : Type 0
+Found = tie.After-next-set Inv-walk μ-walk
+
+abbrev heldOf : Found → tie.After-held-words Inv-walk μ-walk
+heldOf set = set .before .before .before
+
+abbrev atOf : Found → tie.At-walk Inv-walk μ-walk
+atOf set = heldOf set .before
+
+abbrev startOf : Found → tie.Start Inv-walk μ-walk
+startOf set = atOf set .before .before .before .before
+
+fits : (set : Found) → Fit (heldOf set .held-words .result) (startOf set .args .q .w) (set .before .erode .result)
+fits set =
+    let i = set .before .before .inverted in
+    let four : length (i .result) ≡ 4 = search needs in
+    fit-eroded (i .result) four (startOf set .pre .1 .wide) (i .ensures) (set .before .erode .ensures)
+
+-- no place at this time
+blocked : (join : tie.Joined1 Inv-walk μ-walk) → let set = join .before in let a = startOf set .args in
+    Blocked (a .q) (tasksOf (a .count) (a .live .now)) (a .whole) (atOf set .walk .t) (heldOf set .held-words .result)
+blocked join =
+    let set = join .before in
+    let st = startOf set in
+    let a = st .args in
+    let k = atOf set .walk .inv .0 in
+    let f = atOf set .walk .inv .1 in
+    let h = heldOf set .held-words .ensures (a .count) (st .pre .0) f in
+    ⊎-elim
+    (λ w.
+    blocked-edges _ _ _ (st .pre .0 .device) (st .pre .1) k h (fits set) (w .1 .left) (w .2 .result) (w .2 .ensures (a .count) (st .pre .0) f)
+    (w .3 .ensures) (omega (arith, w .4 .left)))
+    (λ w. blocked-none _ _ _ (st .pre .0 .device) (st .pre .1) k h (fits set) (set .next-set .ensures) (omega (arith, w .left)))
+    (join .if1 .came)
+
+-- the next finish after this time
+next : (n : tie.After-next-finish Inv-walk μ-walk) → let set = n .before .before in let a = startOf set .args in
+    NextFinish (a .live .now) (a .count) (atOf set .walk .t) (n .next-finish .result)
+next n =
+    let set = n .before .before in
+    let at = atOf set in
+    let st = startOf set in
+    n .next-finish .ensures (st .args .count) (at .walk .t) (st .pre .0 .falling) (at .walk .inv .1)
+    (omega (arith, st .pre .1 .until, at .walk .inv .0 .in-time))
+
 walk-less : tie.Need-walk-less Inv-walk μ-walk
-walk-less c =
-    let at = c .before .before .before .before .before .before .before .before in
-    let st = at .before .before .before .before in
-    let x = c .before .before .next-finish .ensures (st .args .count) (at .walk .t) (st .pre .0 .falling) (at .walk .inv .1) (omega (arith, st .pre .1 .until, at .walk .inv .0 .in-time)) in
-    omega (arith, x .after)
+walk-less c = omega (arith, next (c .before .before) .after)
 
 walk-again : tie.Need-walk-again Inv-walk μ-walk
 walk-again c =
-    let join = c .before .before .before in
+    let n = c .before .before in
+    let join = n .before in
     let set = join .before in
-    let inv = set .before .before in
-    let held = inv .before in
-    let at = held .before in
-    let st = at .before .before .before .before in
-    let a = st .args in
-    let f = at .walk .inv .1 in
-    let x = c .before .before .next-finish .ensures (a .count) (at .walk .t) (st .pre .0 .falling) f (omega (arith, st .pre .1 .until, at .walk .inv .0 .in-time)) in
-    let i = inv .inverted in
-    let four : length (i .result) ≡ 4 = search needs in
-    let fit = fit-eroded (i .result) four (st .pre .1 .wide) (i .ensures) (set .before .erode .ensures) in
-    let k = at .walk .inv .0 in
-    let h = held .held-words .ensures (a .count) (st .pre .0) f in
-    let b : Blocked (a .q) (tasksOf (a .count) (a .live .now)) (a .whole) (at .walk .t) (held .held-words .result) =
-    ⊎-elim
-    (λ w.
-    blocked-edges _ _ _ (st .pre .0 .device) (st .pre .1) k h fit (w .1 .left) (w .2 .result) (w .2 .ensures (a .count) (st .pre .0) f) (w .3 .ensures) (omega (arith, w .4 .left)))
-    (λ w. blocked-none _ _ _ (st .pre .0 .device) (st .pre .1) k h fit (set .next-set .ensures) (omega (arith, w .left)))
-    (join .if1 .came)
-    in
-    (walk-on _ _ _ (st .pre .0 .device) (st .pre .1) k b x (omega arith), after-on f (omega (arith, x .after)) (c .after2 .ensures))
+    let st = startOf set in
+    let o = atOf set .walk .inv in (
+      walk-on _ _ _ (st .pre .0 .device) (st .pre .1) (o .0) (blocked join) (next n) (omega arith),
+      after-on (o .1) (omega (arith, next n .after)) (c .after2 .ensures),
+    )
 
 returns : tie.Need-returns Inv-walk μ-walk
 returns c =
     let set = c .before .before in
-    let inv = set .before .before in
-    let held = inv .before in
-    let at = held .before in
-    let st = at .before .before .before .before in
-    let a = st .args in
-    let i = inv .inverted in
-    let four : length (i .result) ≡ 4 = search needs in
-    let fit = fit-eroded (i .result) four (st .pre .1 .wide) (i .ensures) (set .before .erode .ensures) in
-    let h = held .held-words .ensures (a .count) (st .pre .0) (at .walk .inv .1) in
-    walk-first _ _ _ (st .pre .0 .device) (st .pre .1) (at .walk .inv .0) h fit (c .if2 .taken) (set .next-set .ensures) (omega arith)
+    let st = startOf set in
+    let o = atOf set .walk .inv in
+    let h = heldOf set .held-words .ensures (st .args .count) (st .pre .0) (o .1) in
+    walk-first _ _ _ (st .pre .0 .device) (st .pre .1) (o .0) h (fits set) (c .if2 .taken) (set .next-set .ensures) (omega arith)
 
 returns-2 : tie.Need-returns-2 Inv-walk μ-walk
 returns-2 c =
     let now = c .before .before in
     let set = now .before .before .before in
-    let inv = set .before .before in
-    let held = inv .before in
-    let at = held .before in
-    let st = at .before .before .before .before in
-    let a = st .args in
-    let i = inv .inverted in
-    let four : length (i .result) ≡ 4 = search needs in
-    let fit = fit-eroded (i .result) four (st .pre .1 .wide) (i .ensures) (set .before .erode .ensures) in
-    let f = at .walk .inv .1 in
-    let h = held .held-words .ensures (a .count) (st .pre .0) f in
-    let h₁ = now .held-words2 .ensures (a .count) (st .pre .0) f in
-    walk-edge _ _ _ (st .pre .0 .device) (st .pre .1) (at .walk .inv .0) h fit (now .before .if2 .left) (now .held-words2 .result) h₁ (c .before .narrowest .ensures) (omega arith)
+    let st = startOf set in
+    let o = atOf set .walk .inv in
+    let h = heldOf set .held-words .ensures (st .args .count) (st .pre .0) (o .1) in
+    let h₁ = now .held-words2 .ensures (st .args .count) (st .pre .0) (o .1) in
+    walk-edge _ _ _ (st .pre .0 .device) (st .pre .1) (o .0) h (fits set) (now .before .if2 .left) (now .held-words2 .result) h₁
+    (c .before .narrowest .ensures) (omega arith)
 
 returns-3 : tie.Need-returns-3 Inv-walk μ-walk
 returns-3 c =
-    let join = c .before .before in
+    let n = c .before in
+    let join = n .before in
     let set = join .before in
-    let inv = set .before .before in
-    let held = inv .before in
-    let at = held .before in
-    let st = at .before .before .before .before in
-    let a = st .args in
-    let f = at .walk .inv .1 in
-    let x = c .before .next-finish .ensures (a .count) (at .walk .t) (st .pre .0 .falling) f (omega (arith, st .pre .1 .until, at .walk .inv .0 .in-time)) in
-    let i = inv .inverted in
-    let four : length (i .result) ≡ 4 = search needs in
-    let fit = fit-eroded (i .result) four (st .pre .1 .wide) (i .ensures) (set .before .erode .ensures) in
-    let k = at .walk .inv .0 in
-    let h = held .held-words .ensures (a .count) (st .pre .0) f in
-    let b : Blocked (a .q) (tasksOf (a .count) (a .live .now)) (a .whole) (at .walk .t) (held .held-words .result) =
-    ⊎-elim
-    (λ w.
-    blocked-edges _ _ _ (st .pre .0 .device) (st .pre .1) k h fit (w .1 .left) (w .2 .result) (w .2 .ensures (a .count) (st .pre .0) f) (w .3 .ensures) (omega (arith, w .4 .left)))
-    (λ w. blocked-none _ _ _ (st .pre .0 .device) (st .pre .1) k h fit (set .next-set .ensures) (omega (arith, w .left)))
-    (join .if1 .came)
-    in
-    walk-over _ _ _ (st .pre .0 .device) (st .pre .1) k b x (omega arith)
+    let st = startOf set in
+    walk-over _ _ _ (st .pre .0 .device) (st .pre .1) (atOf set .walk .inv .0) (blocked join) (next n) (omega arith)
 
 pub find-spec : {M : Type 1} → statement M
 find-spec =

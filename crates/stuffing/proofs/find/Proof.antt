@@ -6,7 +6,9 @@ use Rattle.lists.specs.Lists.{never}
 use Rattle.columns.proofs.BestFit.{left-small}
 use Rattle.live.specs.Live.{tasksOf, After}
 use Rattle.live.proofs.Laws.{after-on}
+use Rattle.planners.specs.Planners.{free}
 use Rattle.planners.proofs.Walk.{visits-start}
+use Rattle.stuffing.specs.Fit.{NextFit}
 use Rattle.stuffing.proofs.Fits.{next-listed}
 use Rattle.stuffing.proofs.Marks.{fewer, stretches, fit-same}
 use Rattle.stuffing.proofs.Tries.{Tried, tries-start, tries-none, tries-hit, tries-on, tries-past, Stuffs, stuffs-hit, stuffs-none, stuffs-on}
@@ -26,6 +28,33 @@ Inv-visits live count q last t₀ n₀ t n =
 
 abbrev μ-visits : tie.MeasureT-visits
 μ-visits live count q last t₀ n₀ t n = q .d - t
+
+-- a visit, and the call that it stands in
+abbrev Visit : Type 0
+Visit = tie.At-visits Inv-tries μ-tries Inv-visits μ-visits
+
+abbrev startOf : Visit → tie.Start Inv-tries μ-tries Inv-visits μ-visits
+startOf v = v .before .before .before
+
+-- where the next key is found, and the tries and the visit that it belongs to
+abbrev Next : Type 0
+Next = tie.After-next-key Inv-tries μ-tries Inv-visits μ-visits
+
+abbrev triesOf : Next → tie.At-tries Inv-tries μ-tries Inv-visits μ-visits
+triesOf f = f .before .before
+
+abbrev visitOf : Next → Visit
+visitOf f = triesOf f .before .before .before .before .before .before
+
+-- it is that of the next free interval wide enough
+next-fit : (f : Next) → let v = visitOf f in let a = startOf v .args in
+    NextFit (free (tasksOf (a .count) (a .live .now)) (v .visits .t)) (a .q .width) (a .q .w) (triesOf f .tries .after) (f .next-key .result)
+next-fit f =
+    let listed = triesOf f .before in
+    let v = visitOf f in
+    let s = startOf v in
+    fit-same (s .pre .0) (s .pre .1) (s .pre .2) (v .visits .inv .2) (listed .before .before .before .mark-held .ensures)
+    (next-listed (listed .list-fits .ensures) (f .next-key .ensures))
 
 sub-last : tie.Need-sub-last Inv-tries μ-tries Inv-visits μ-visits
 sub-last c = search needs
@@ -59,8 +88,8 @@ left-of-requires c κs = search needs
 
 meets-any-requires : tie.Need-meets-any-requires Inv-tries μ-tries Inv-visits μ-visits
 meets-any-requires c κs =
-    let v = c .before .before .before .before .before .before .before .before .before .before in
-    let s = v .before .before .before in (
+    let v = visitOf (c .before .before) in
+    let s = startOf v in (
       (s .pre .0, s .pre .1, v .visits .inv .2),
       (omega arith, omega arith, omega (arith, s .pre .0 .wide, left-small (c .before .before .next-key .result) (c .left-of .ensures)), omega (arith, v .visits .inv .1)),
     )
@@ -68,53 +97,47 @@ meets-any-requires c κs =
 tries-less : tie.Need-tries-less Inv-tries μ-tries Inv-visits μ-visits
 tries-less c =
     let f = c .before .before .before .before in
-    let i = f .before .before in
-    let a = i .before in
-    let h = a .before .before .before in
-    let v = h .before .before in
-    let s = v .before .before .before in
-    let n = fit-same (s .pre .0) (s .pre .1) (s .pre .2) (v .visits .inv .2) (h .mark-held .ensures) (next-listed (a .list-fits .ensures) (f .next-key .ensures)) in
+    let i = triesOf f in
+    let v = visitOf f in
+    let s = startOf v in
+    let n = next-fit f in
     omega (arith, tries-past _ (s .args .q .clock) _ _ _ (s .args .q .d) (s .pre .0 .wide) (i .tries .inv) n (c .before .before .before .if1 .left))
 
 tries-again : tie.Need-tries-again Inv-tries μ-tries Inv-visits μ-visits
 tries-again c =
     let f = c .before .before .before .before in
-    let i = f .before .before in
-    let a = i .before in
-    let h = a .before .before .before in
-    let v = h .before .before in
-    let s = v .before .before .before in
-    let n = fit-same (s .pre .0) (s .pre .1) (s .pre .2) (v .visits .inv .2) (h .mark-held .ensures) (next-listed (a .list-fits .ensures) (f .next-key .ensures)) in
+    let i = triesOf f in
+    let v = visitOf f in
+    let s = startOf v in
+    let n = next-fit f in
     tries-on _ (s .args .q .clock) _ _ _ (s .args .q .d) (s .pre .0 .wide) (i .tries .inv) n (c .before .before .before .if1 .left)
     (c .before .before .left-of .ensures) (sym (c .before .meets-any .ensures) ∙ c .if2 .taken)
 
 next-finish-requires : tie.Need-next-finish-requires Inv-tries μ-tries Inv-visits μ-visits
 next-finish-requires c κs =
-    let v = c .before .before .before .before .before .before .before .before .before in
-    omega (arith, v .before .before .before .pre .0 .few, v .visits .inv .2 .few)
+    let v = visitOf (c .before) in
+    omega (arith, startOf v .pre .0 .few, v .visits .inv .2 .few)
 
 after-requires-2 : tie.Need-after-requires-2 Inv-tries μ-tries Inv-visits μ-visits
 after-requires-2 c κs =
-    let v = c .before .before .before .before .before .before .before .before .before .before .before in
-    omega (arith, v .before .before .before .pre .0 .few, v .visits .inv .2 .few)
+    let v = visitOf (c .before .before .before) in
+    omega (arith, startOf v .pre .0 .few, v .visits .inv .2 .few)
 
 visits-less : tie.Need-visits-less Inv-tries μ-tries Inv-visits μ-visits
 visits-less c =
     let f = c .before .before in
-    let v = f .before .before .before .before .before .before .before .before .before .before in
-    let s = v .before .before .before in
+    let v = visitOf (f .before .before) in
+    let s = startOf v in
     omega (arith, f .next-finish .ensures _ _ (s .pre .1) (v .visits .inv .2) (omega arith) .after)
 
 visits-again : tie.Need-visits-again Inv-tries μ-tries Inv-visits μ-visits
 visits-again c =
     let g = c .before .before in
     let f = g .before .before in
-    let i = f .before .before in
-    let a = i .before in
-    let h = a .before .before .before in
-    let v = h .before .before in
-    let s = v .before .before .before in
-    let n = fit-same (s .pre .0) (s .pre .1) (s .pre .2) (v .visits .inv .2) (h .mark-held .ensures) (next-listed (a .list-fits .ensures) (f .next-key .ensures)) in
+    let i = triesOf f in
+    let v = visitOf f in
+    let s = startOf v in
+    let n = next-fit f in
     let x = g .next-finish .ensures _ _ (s .pre .1) (v .visits .inv .2) (omega arith) in
     let none-here = tries-none _ _ _ _ _ _ (s .pre .0 .wide) (i .tries .inv) n (g .before .if1 .taken) in (
       stuffs-on _ _ _ _ (s .pre .0) _ _ _ (v .visits .inv .0) none-here x (omega arith) (omega arith) (omega arith),
@@ -125,12 +148,10 @@ visits-again c =
 returns : tie.Need-returns Inv-tries μ-tries Inv-visits μ-visits
 returns c =
     let f = c .before .before .before .before in
-    let i = f .before .before in
-    let a = i .before in
-    let h = a .before .before .before in
-    let v = h .before .before in
-    let s = v .before .before .before in
-    let n = fit-same (s .pre .0) (s .pre .1) (s .pre .2) (v .visits .inv .2) (h .mark-held .ensures) (next-listed (a .list-fits .ensures) (f .next-key .ensures)) in
+    let i = triesOf f in
+    let v = visitOf f in
+    let s = startOf v in
+    let n = next-fit f in
     stuffs-hit _ _ _ _ (s .pre .0) _ _ _ (v .visits .inv .0)
     (tries-hit _ _ _ _ _ _ (s .pre .0 .wide) (i .tries .inv) n (c .before .before .before .if1 .left)
     (c .before .before .left-of .ensures) (sym (c .before .meets-any .ensures) ∙ c .if2 .left))
@@ -138,12 +159,10 @@ returns c =
 returns-2 : tie.Need-returns-2 Inv-tries μ-tries Inv-visits μ-visits
 returns-2 c =
     let f = c .before .before .before in
-    let i = f .before .before in
-    let a = i .before in
-    let h = a .before .before .before in
-    let v = h .before .before in
-    let s = v .before .before .before in
-    let n = fit-same (s .pre .0) (s .pre .1) (s .pre .2) (v .visits .inv .2) (h .mark-held .ensures) (next-listed (a .list-fits .ensures) (f .next-key .ensures)) in
+    let i = triesOf f in
+    let v = visitOf f in
+    let s = startOf v in
+    let n = next-fit f in
     let x = c .before .next-finish .ensures _ _ (s .pre .1) (v .visits .inv .2) (omega arith) in
     let none-here = tries-none _ _ _ _ _ _ (s .pre .0 .wide) (i .tries .inv) n (c .before .before .if1 .taken) in
     stuffs-none _ _ _ _ (s .pre .0) _ _ _ (v .visits .inv .0) none-here x (omega arith) (omega arith)
