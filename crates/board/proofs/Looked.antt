@@ -5,11 +5,10 @@ use mathlib.Core.Logic.{_⊎_, inl, inr}
 use mathlib.Core.Bool.{Bool, not}
 use mathlib.Core.List.{List, [], _∷_, map, List·Memᴰ·head as here, List·Memᴰ·tail as there}
 use native.Mathlib.Omega.{arith}
-use lib.Dec.{T, ltb}
+use lib.Dec.{T}
 use lib.ListN.{length}
-use borrow.Author.Tests.{le-ltb}
 use Rattle.lists.specs.Lists.{_∈_, keep, some?}
-use Rattle.lists.proofs.Bools.{bool, is-true, same-bool}
+use Rattle.lists.proofs.Bools.{bool, same-bool}
 use Rattle.lists.proofs.Members.{keep-in, in-keep, some-pass, pass-some}
 use Rattle.tasks.specs.declared.Phase.{Phase}
 use Rattle.tasks.specs.declared.Phase.the-variants.{Ended, Waiting, Running}
@@ -17,14 +16,14 @@ use Rattle.tasks.specs.declared.Task.{Task}
 use Rattle.tasks.specs.Tasks.{live, livePhase, runningPhase, covers, holds, inPhase, stamped, stampedAll, freeSlot}
 use Rattle.tasks.proofs.Laws.{holds-out, holds-in, covers-out, covers-in, phase-ended}
 use Rattle.columns.specs.Columns.{columns}
-use Rattle.slots.proofs.Soundness.{InPhase, running, waiting, sound-in}
+use Rattle.slots.proofs.Soundness.{InPhase, running, waiting}
 use Rattle.slots.proofs.Ageing.{still}
 use Rattle.lookups.specs.Lookups.{busyColumns}
 use Rattle.lookups.proofs.Busy.{busy-held}
 use Rattle.board.specs.declared.Board.{Board}
 use Rattle.board.specs.declared.Listed.{Listed}
 use Rattle.board.specs.declared.Counted.{Counted}
-use Rattle.board.specs.Refusals.{refusal, liveOf, soundBoard, refusedInstant, refusedHorizon, horizonOf}
+use Rattle.board.specs.Refusals.{liveOf, refusedInstant, refusedHorizon, horizonOf}
 use Rattle.board.specs.Calls.{orRefused, listed, listedBuffer, counted}
 use Rattle.board.proofs.Kept.{SoundBoard, instant-allowed}
 

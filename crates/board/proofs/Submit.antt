@@ -2,9 +2,9 @@
 use Prim.Native.Nat.{ℕ, zero, suc, _+_, _%_, _≤_, _<_}
 use mathlib.Core.Path.{_≡_, refl, sym, ap, _∙_, subst}
 use mathlib.Core.Logic.{_⊎_, inl, inr}
-use mathlib.Core.Bool.{Bool, true, false, not}
+use mathlib.Core.Bool.{Bool, false, not}
 use mathlib.Core.Option.{Option, none, some}
-use mathlib.Core.List.{List, [], _∷_, map}
+use mathlib.Core.List.{List, map}
 use native.Mathlib.Omega.{arith}
 use lib.Dec.{T, leb, ltb, eqb, leb→le, le→leb, ltb→lt, nltb→le}
 use lib.ListN.{length, set}
@@ -39,7 +39,7 @@ use Rattle.board.specs.Calls.{orRefused, withTasks, withTask, taken, ans
 use Rattle.board.specs.Standing.{submittedBooked}
 use Rattle.refusals.specs.Refusals.{submitTests}
 use Rattle.refusals.proofs.First.{sound-passes, unsound-refused}
-use Rattle.board.proofs.Kept.{SoundBoard, Accepted, submit-accepted}
+use Rattle.board.proofs.Kept.{Accepted, submit-accepted}
 
 pub submit-unsound : (b : Board) (n : ℕ) (a : Submission) → soundBoard b ≡ false → submitted b n a ≡ record { answer = Refused 1; board = b }
 unfolding submitted refusedSubmit orRefused

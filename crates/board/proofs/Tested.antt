@@ -3,7 +3,7 @@ use Prim.Native.Nat.{ℕ, zero, suc, _<_}
 use mathlib.Core.Path.{_≡_, refl, sym, ap, _∙_, subst}
 use mathlib.Core.Logic.{_⊎_, inl, inr}
 use mathlib.Core.Bool.{Bool, true, false, not, _&&_}
-use mathlib.Core.List.{List, _∷_}
+use mathlib.Core.List.{List}
 use native.Mathlib.Omega.{arith}
 use lib.Dec.{T, ltb, eqb, eqb→eq}
 use lib.ListN.{length, getD, set}
@@ -18,7 +18,7 @@ use Rattle.tasks.specs.Tasks.{live, waitingPhase, freeSlot}
 use Rattle.slots.specs.Slots.{named, known, begunNamed, withoutNamed}
 use Rattle.slots.proofs.Soundness.{Sound, Together, sound-out}
 use Rattle.refusals.specs.Refusals.{instantTests, withdrawTests}
-use Rattle.refusals.proofs.First.{refused-by, passed-over, none-holds, sound-passes, unsound-refused}
+use Rattle.refusals.proofs.First.{refused-by, none-holds, sound-passes, unsound-refused}
 use Rattle.board.specs.declared.Board.{Board}
 use Rattle.board.specs.Refusals.{refusal, soundBoard, refusedInstant, refusedWithdraw}
 use Rattle.board.specs.Calls.{orRefused, withTasks, boardAt, clocked, withdrawn}

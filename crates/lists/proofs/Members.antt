@@ -8,7 +8,7 @@ use mathlib.Core.List.{List, [], _∷_, map, Memᴰ·append-left, Memᴰ·append
 use mathlib.Core.List.{List·Memᴰ·head as here, List·Memᴰ·tail as there, List·Memᴰ·cases-cons as cases, List·Memᴰ·not-nil as nowhere}
 use native.Mathlib.Omega.{arith}
 use native.Mathlib.Decide.{ℕ-discrete as decEq}
-use lib.Dec.{T, leb, ltb, eqb, T-not}
+use lib.Dec.{T, ltb, eqb, T-not}
 use lib.ListN.{length, getD}
 use borrow.Author.Tests.{eqb-true}
 use Rattle.lists.specs.Lists.{_∈_, keep, some?, all?, head?, insertBy, sortBy, range, each, highest, addTo, rising}

@@ -1,7 +1,7 @@
 -- What a line says: the line that is written for an event says that event. Assumes nothing.
-use Prim.Native.Nat.{ℕ, suc, _+_, _≤_, _<_}
+use Prim.Native.Nat.{ℕ, _+_, _≤_, _<_}
 use mathlib.Core.Path.{_≡_, refl, sym, ap, _∙_}
-use mathlib.Core.Bool.{Bool, true, false, cond, _&&_}
+use mathlib.Core.Bool.{false}
 use mathlib.Core.List.{List, [], _∷_, _++_, append-nil, append-assoc}
 use native.Mathlib.Omega.{arith}
 use native.Mathlib.Numerals.{add-one}
@@ -12,10 +12,10 @@ use lib.Seq.{take-length}
 use Rattle.lists.specs.Lists.{indexOf, lastOr}
 use Rattle.events.specs.declared.Event.{Event}
 use Rattle.events.specs.declared.Event.the-variants.{NewBoard, Submit, Clock, Withdraw}
-use Rattle.text.specs.Text.{value, decimal}
+use Rattle.text.specs.Text.{decimal}
 use Rattle.text.proofs.Meaning.{Digits, decimal-value, decimal-digits}
 use Rattle.tokens.specs.declared.Sort.the-variants.{Hash}
-use Rattle.tokens.specs.Tokens.{blank, stopsAt, ended, wordsOn, words, firstWord, otherWords, same, empty, fits, wrong, nth}
+use Rattle.tokens.specs.Tokens.{blank, stopsAt, ended, wordsOn, words, firstWord, otherWords, same, empty, wrong, nth}
 use Rattle.tokens.proofs.Judged.{reads-decimal, some-digit}
 use Rattle.lines.specs.declared.Line.the-variants.{Says}
 use Rattle.lines.specs.Lines.{lessReturn, bare, plannerOf, saidOr, boardLine, clockLine, withdrawLine, asks, submitBehind, submitLine, saidBy, says, boardName, submitName, clockName, withdrawName}

@@ -1,9 +1,8 @@
 -- Soundness as a record of plain clauses, decided by the test. Assumes nothing.
 use Prim.Native.Nat.{ℕ, suc, _+_, _≤_, _<_}
 use mathlib.Core.Path.{_≡_, refl, sym, subst}
-use mathlib.Core.Bool.{Bool, true, false, not, cond, _&&_, _||_}
+use mathlib.Core.Bool.{Bool, true, false, not, cond}
 use mathlib.Core.List.{List, [], _∷_}
-use native.Mathlib.Omega.{arith}
 use lib.Dec.{T, leb, ltb, eqb, leb→le, le→leb, ltb→lt, nltb→le, eqb→eq, eqb-refl, not-T, T-not}
 use lib.ListN.{length}
 use Rattle.lists.specs.Lists.{_∈_, all?, pairwise?}
@@ -155,8 +154,3 @@ sound-in D now ks s =
 
     each : (k : Task) → k ∈ ks → T (slotSound D now k)
     each k m = step k m (live k) refl
-
--- every slot of a sound board by itself is sound
-pub each-sound : (D : Device) (now : ℕ) (ks : List Task) → T (sound D now ks) → T (all? (slotSound D now) ks)
-unfolding sound
-each-sound D now ks s = search (and-l, and-r) depth 9

@@ -7,10 +7,10 @@ use native.Mathlib.Omega.{arith}
 use native.Mathlib.Decide.{decLt}
 use borrow.Author.Tests.{lt-ltb, le-ltb, le-leb, lt-leb, ltb-true, eqb-true}
 use lib.Dec.{T, leb, ltb, eqb, nltb→le, eqb→eq, not-T}
-use lib.ListN.{length, getD, set, replicate, length-set, length-replicate, getD-replicate}
+use lib.ListN.{getD, set, replicate, length-set, length-replicate, getD-replicate}
 use Rattle.lists.specs.Lists.{some?, indexOf, range}
 use Rattle.lists.proofs.Bools.{is-true, is-false, and-i, and-l, and-r}
-use Rattle.lists.proofs.Append.{index-test, index-is, index-passes}
+use Rattle.lists.proofs.Append.{index-is, index-passes}
 use Rattle.lists.proofs.Members.{getD-in, pass-none, pass-some, range-in, in-range}
 use Rattle.lists.proofs.Order.{sorted-at}
 use Rattle.tasks.specs.declared.Device.{Device}
@@ -24,7 +24,7 @@ use Rattle.slots.specs.Slots.{sound, named, known, begunNamed, agedTo, allAgedT
 use Rattle.slots.proofs.Soundness.{InPhase, running, waiting, SoundTask, Together, Sound, sound-out, sound-in}
 use Rattle.slots.proofs.Ageing.{aged-free-slot, aged-length, aged-stands, stamped-live, aged-sound, aged-now, aged-twice}
 use Rattle.live.specs.Live.{fromAt, idAt, slotAt, Falling, After}
-use Rattle.live.specs.Kept.{Stands, Kept, Closed, Inserted, InUse, lowestFree}
+use Rattle.live.specs.Kept.{Stands, Closed, Inserted, lowestFree}
 use Rattle.live.proofs.Standing.{room, inserted-stands, inserted-falling, inserted-masked, removed-stands, removed-falling, removed-masked, after-stands, after-falling, after-masked, no-tasks}
 use Rattle.live.proofs.InUse.{use-in, in-use-more, in-use-less, in-use-after}
 use Rattle.live.proofs.Planned.{start-at, id-at, known-same}

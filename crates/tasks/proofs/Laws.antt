@@ -1,5 +1,5 @@
 -- What the tests of `specs/` mean: sharing a column at a tick is Definition 1 of the source; a phase is its instants. Assumes nothing.
-use Prim.Native.Nat.{ℕ, _+_, _≤_, _<_, max, min}
+use Prim.Native.Nat.{ℕ, _≤_, _<_, max, min}
 use mathlib.Core.Path.{_≡_, refl, sym, ap, _∙_, subst}
 use mathlib.Core.Bool.{Bool, true, false, not, cond, _&&_}
 use native.Mathlib.Omega.{arith}

@@ -1,5 +1,4 @@
 -- `steps::clock` meets its contract: 1, 11, 12, or the tasks that have finished are gone. Assumes nothing.
-use Prim.Native.Nat.{_≤_}
 use mathlib.Core.Path.{_≡_}
 use mathlib.Core.Bool.{true}
 use native.Mathlib.Omega.{arith}

@@ -1,5 +1,5 @@
 -- `stuffing::list_fits` meets its contract: the runs that begin before `from` are listed. Assumes nothing.
-use Prim.Native.Nat.{suc, _+_, _-_, _≤_}
+use Prim.Native.Nat.{suc, _-_}
 use mathlib.Core.Path.{sym, _∙_}
 use native.Mathlib.Omega.{arith}
 use Rattle.stuffing.proofs.Fits.{Passed, pass-first, pass-held, pass-room, pass-free, pass-last}

@@ -1,7 +1,6 @@
 -- `survey::used_with` meets its contract: the slot too, where it is live. Assumes nothing.
-use mathlib.Core.Path.{_≡_, refl, sym, _∙_}
-use mathlib.Core.Bool.{Bool, true, false, _&&_, _||_}
-use lib.Dec.{eqb}
+use mathlib.Core.Path.{_≡_, refl}
+use mathlib.Core.Bool.{Bool, true, false, _||_}
 use borrow.Author.Needs.{needs}
 use Rattle.survey.proofs.used_with.Statement.{statement}
 use Rattle.survey.proofs.used_with.Tie as tie
