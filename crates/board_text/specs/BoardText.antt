@@ -7,18 +7,18 @@ use Rattle.tasks.specs.declared.Phase.{Phase}
 use Rattle.tasks.specs.declared.Phase.the-variants.{Ended, Waiting, Running}
 use Rattle.tasks.specs.declared.Task.{Task}
 use Rattle.tasks.specs.Tasks.{finish, live, stampedAll}
-use Rattle.text.specs.Text.{decimal, lineText, rowText}
+use Rattle.text.specs.Text.{ascii, decimal, lineText, rowText}
 use Rattle.board.specs.declared.Board.{Board}
 
 -- "phase in words": ended, waiting, running
 abbrev pub phaseWord : Phase → List ℕ
-phaseWord Ended = 101 ∷ 110 ∷ 100 ∷ 101 ∷ 100 ∷ []
-phaseWord Waiting = 119 ∷ 97 ∷ 105 ∷ 116 ∷ 105 ∷ 110 ∷ 103 ∷ []
-phaseWord Running = 114 ∷ 117 ∷ 110 ∷ 110 ∷ 105 ∷ 110 ∷ 103 ∷ []
+phaseWord Ended = ascii "ended"
+phaseWord Waiting = ascii "waiting"
+phaseWord Running = ascii "running"
 
 -- "Its first line is `answer N`"
 unfoldable pub answerText : ℕ → List ℕ
-answerText n = lineText ((97 ∷ 110 ∷ 115 ∷ 119 ∷ 101 ∷ 114 ∷ []) ∷ decimal n ∷ [])
+answerText n = lineText (ascii "answer" ∷ decimal n ∷ [])
 
 -- "a row `slot id w h e d column start finish phase`"
 unfoldable pub taskText : ℕ → Task → List ℕ
@@ -47,23 +47,19 @@ stampText instant b = shownText b (stampedAll instant (b .tasks))
 
 -- "ask: event "
 abbrev pub askEvent : List ℕ
-askEvent = 97 ∷ 115 ∷ 107 ∷ 58 ∷ 32 ∷ 101 ∷ 118 ∷ 101 ∷ 110 ∷ 116 ∷ 32 ∷ []
+askEvent = ascii "ask: event "
 
 -- " (kind "
 abbrev pub ofKind : List ℕ
-ofKind = 32 ∷ 40 ∷ 107 ∷ 105 ∷ 110 ∷ 100 ∷ 32 ∷ []
+ofKind = ascii " (kind "
 
 -- ") is cut short (15): not answered"
 abbrev pub isCutShort : List ℕ
-isCutShort =
-    41 ∷ 32 ∷ 105 ∷ 115 ∷ 32 ∷ 99 ∷ 117 ∷ 116 ∷ 32 ∷ 115 ∷ 104 ∷ 111 ∷ 114 ∷ 116 ∷ 32 ∷ 40 ∷ 49 ∷ 53 ∷ 41 ∷ 58
-    ∷ 32 ∷ 110 ∷ 111 ∷ 116 ∷ 32 ∷ 97 ∷ 110 ∷ 115 ∷ 119 ∷ 101 ∷ 114 ∷ 101 ∷ 100 ∷ 10 ∷ []
+isCutShort = ascii ") is cut short (15): not answered\n"
 
 -- ") is of no known kind (16): not answered"
 abbrev pub isUnknown : List ℕ
-isUnknown =
-    41 ∷ 32 ∷ 105 ∷ 115 ∷ 32 ∷ 111 ∷ 102 ∷ 32 ∷ 110 ∷ 111 ∷ 32 ∷ 107 ∷ 110 ∷ 111 ∷ 119 ∷ 110
-    ∷ 32 ∷ 107 ∷ 105 ∷ 110 ∷ 100 ∷ 32 ∷ 40 ∷ 49 ∷ 54 ∷ 41 ∷ 58 ∷ 32 ∷ 110 ∷ 111 ∷ 116 ∷ 32 ∷ 97 ∷ 110 ∷ 115 ∷ 119 ∷ 101 ∷ 114 ∷ 101 ∷ 100 ∷ 10 ∷ []
+isUnknown = ascii ") is of no known kind (16): not answered\n"
 
 -- "A recording that ends in 15 or 16 is not answered: a message .. names the event"
 unfoldable pub haltText : ℕ → ℕ → ℕ → List ℕ

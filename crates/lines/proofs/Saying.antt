@@ -10,13 +10,12 @@ use lib.Seq.{take-take, take-length}
 use Rattle.lists.specs.Lists.{indexOf, lastOr}
 use Rattle.events.specs.declared.Event.{Event}
 use Rattle.events.specs.declared.Event.the-variants.{Submit}
-use Rattle.text.specs.Text.{value}
+use Rattle.text.specs.Text.{ascii, value}
 use Rattle.tokens.specs.declared.Sort.the-variants.{Hash}
 use Rattle.tokens.specs.Tokens.{stopsAt, same, empty, fits, wrong, nth}
 use Rattle.lines.specs.declared.Line.{Line}
 use Rattle.lines.specs.declared.Line.the-variants.{Nothing, Says, Wrong}
 use Rattle.lines.specs.Lines.{lessReturn, bare, plannerOf, saidOr, asks, submitBehind, boardLine, submitLine, clockLine, withdrawLine, saidBy}
-use Rattle.lines.specs.Lines.{referenceName, horizonName, stuffingName, fullName, boardName, submitName, clockName, withdrawName}
 
 -- a word that is wrong, and none
 pub said-wrong : (kind n : ℕ) (event : Event) {r w : ℕ} → r ≡ w → (r ≡ 0 → ⊥) → Wrong kind (r + n) ≡ saidOr kind n w event
@@ -29,28 +28,28 @@ said-right kind n {event} {said} {r} {w} e h k = rw (← e, h) (ap Says k)
 
 -- A PLANNER by name or by number
 module _ (p : List ℕ) where
-  pub planner-0 : same p referenceName ≡ true → _≡_ {A = ℕ} 0 (plannerOf p)
+  pub planner-0 : same p (ascii "reference") ≡ true → _≡_ {A = ℕ} 0 (plannerOf p)
   unfolding plannerOf
   planner-0 y = rw (y)
 
-  pub planner-1 : same p referenceName ≡ false → same p horizonName ≡ true → _≡_ {A = ℕ} 1 (plannerOf p)
+  pub planner-1 : same p (ascii "reference") ≡ false → same p (ascii "horizon") ≡ true → _≡_ {A = ℕ} 1 (plannerOf p)
   unfolding plannerOf
   planner-1 n0 y = rw (n0, y)
 
-  pub planner-2 : same p referenceName ≡ false → same p horizonName ≡ false → same p stuffingName ≡ true → _≡_ {A = ℕ} 2 (plannerOf p)
+  pub planner-2 : same p (ascii "reference") ≡ false → same p (ascii "horizon") ≡ false → same p (ascii "stuffing") ≡ true → _≡_ {A = ℕ} 2 (plannerOf p)
   unfolding plannerOf
   planner-2 n0 n1 y = rw (n0, n1, y)
 
-  pub planner-3 : same p referenceName ≡ false → same p horizonName ≡ false → same p stuffingName ≡ false → same p fullName ≡ true → _≡_ {A = ℕ} 3 (plannerOf p)
+  pub planner-3 : same p (ascii "reference") ≡ false → same p (ascii "horizon") ≡ false → same p (ascii "stuffing") ≡ false → same p (ascii "full") ≡ true → _≡_ {A = ℕ} 3 (plannerOf p)
   unfolding plannerOf
   planner-3 n0 n1 n2 y = rw (n0, n1, n2, y)
 
-  pub planner-4 : same p referenceName ≡ false → same p horizonName ≡ false → same p stuffingName ≡ false → same p fullName ≡ false → fits 255 p ≡ true
+  pub planner-4 : same p (ascii "reference") ≡ false → same p (ascii "horizon") ≡ false → same p (ascii "stuffing") ≡ false → same p (ascii "full") ≡ false → fits 255 p ≡ true
       → value 0 p ≡ plannerOf p
   unfolding plannerOf
   planner-4 n0 n1 n2 n3 y = rw (n0, n1, n2, n3, y)
 
-  pub planner-5 : same p referenceName ≡ false → same p horizonName ≡ false → same p stuffingName ≡ false → same p fullName ≡ false → fits 255 p ≡ false
+  pub planner-5 : same p (ascii "reference") ≡ false → same p (ascii "horizon") ≡ false → same p (ascii "stuffing") ≡ false → same p (ascii "full") ≡ false → fits 255 p ≡ false
       → _≡_ {A = ℕ} 256 (plannerOf p)
   unfolding plannerOf
   planner-5 n0 n1 n2 n3 y = rw (n0, n1, n2, n3, y)
@@ -61,24 +60,24 @@ module _ (name : List ℕ) (ws : List (List ℕ)) where
   unfolding saidBy
   said-nothing e = rw e
 
-  pub said-board : empty name ≡ false → same name boardName ≡ true → boardLine ws ≡ saidBy name ws
+  pub said-board : empty name ≡ false → same name (ascii "board") ≡ true → boardLine ws ≡ saidBy name ws
   unfolding saidBy
   said-board e y = rw (e, y)
 
-  pub said-submit : empty name ≡ false → same name boardName ≡ false → same name submitName ≡ true → submitLine ws ≡ saidBy name ws
+  pub said-submit : empty name ≡ false → same name (ascii "board") ≡ false → same name (ascii "submit") ≡ true → submitLine ws ≡ saidBy name ws
   unfolding saidBy
   said-submit e n0 y = rw (e, n0, y)
 
-  pub said-clock : empty name ≡ false → same name boardName ≡ false → same name submitName ≡ false → same name clockName ≡ true → clockLine ws ≡ saidBy name ws
+  pub said-clock : empty name ≡ false → same name (ascii "board") ≡ false → same name (ascii "submit") ≡ false → same name (ascii "clock") ≡ true → clockLine ws ≡ saidBy name ws
   unfolding saidBy
   said-clock e n0 n1 y = rw (e, n0, n1, y)
 
-  pub said-withdraw : empty name ≡ false → same name boardName ≡ false → same name submitName ≡ false → same name clockName ≡ false → same name withdrawName ≡ true
+  pub said-withdraw : empty name ≡ false → same name (ascii "board") ≡ false → same name (ascii "submit") ≡ false → same name (ascii "clock") ≡ false → same name (ascii "withdraw") ≡ true
       → withdrawLine ws ≡ saidBy name ws
   unfolding saidBy
   said-withdraw e n0 n1 n2 y = rw (e, n0, n1, n2, y)
 
-  pub said-other : empty name ≡ false → same name boardName ≡ false → same name submitName ≡ false → same name clockName ≡ false → same name withdrawName ≡ false
+  pub said-other : empty name ≡ false → same name (ascii "board") ≡ false → same name (ascii "submit") ≡ false → same name (ascii "clock") ≡ false → same name (ascii "withdraw") ≡ false
       → Wrong 0 1 ≡ saidBy name ws
   unfolding saidBy
   said-other e n0 n1 n2 n3 = rw (e, n0, n1, n2, n3)

@@ -7,36 +7,11 @@ use lib.ListN.{length, take}
 use Rattle.lists.specs.Lists.{indexOf, lastOr}
 use Rattle.events.specs.declared.Event.{Event}
 use Rattle.events.specs.declared.Event.the-variants.{NewBoard, Submit, Clock, Withdraw}
-use Rattle.text.specs.Text.{value}
+use Rattle.text.specs.Text.{ascii, value}
 use Rattle.tokens.specs.declared.Sort.the-variants.{Hash}
 use Rattle.tokens.specs.Tokens.{stopsAt, words, firstWord, otherWords, same, empty, fits, wrong, nth}
 use Rattle.lines.specs.declared.Line.{Line}
 use Rattle.lines.specs.declared.Line.the-variants.{Nothing, Says, Wrong}
-
--- the names, in ASCII
-abbrev pub referenceName : List ℕ
-referenceName = 114 ∷ 101 ∷ 102 ∷ 101 ∷ 114 ∷ 101 ∷ 110 ∷ 99 ∷ 101 ∷ []
-
-abbrev pub horizonName : List ℕ
-horizonName = 104 ∷ 111 ∷ 114 ∷ 105 ∷ 122 ∷ 111 ∷ 110 ∷ []
-
-abbrev pub stuffingName : List ℕ
-stuffingName = 115 ∷ 116 ∷ 117 ∷ 102 ∷ 102 ∷ 105 ∷ 110 ∷ 103 ∷ []
-
-abbrev pub fullName : List ℕ
-fullName = 102 ∷ 117 ∷ 108 ∷ 108 ∷ []
-
-abbrev pub boardName : List ℕ
-boardName = 98 ∷ 111 ∷ 97 ∷ 114 ∷ 100 ∷ []
-
-abbrev pub submitName : List ℕ
-submitName = 115 ∷ 117 ∷ 98 ∷ 109 ∷ 105 ∷ 116 ∷ []
-
-abbrev pub clockName : List ℕ
-clockName = 99 ∷ 108 ∷ 111 ∷ 99 ∷ 107 ∷ []
-
-abbrev pub withdrawName : List ℕ
-withdrawName = 119 ∷ 105 ∷ 116 ∷ 104 ∷ 100 ∷ 114 ∷ 97 ∷ 119 ∷ []
 
 -- "CR LF too": a line without a carriage return (13) at its end
 unfoldable pub lessReturn : List ℕ → List ℕ
@@ -49,10 +24,10 @@ bare line = take (indexOf (stopsAt Hash) (lessReturn line)) (lessReturn line)
 -- "planner by name, reference, horizon, stuffing, full, or by number 0 to 255"; 256 where it is neither
 unfoldable pub plannerOf : List ℕ → ℕ
 plannerOf p =
-    cond (same p referenceName) 0
-    (cond (same p horizonName) 1
-    (cond (same p stuffingName) 2
-    (cond (same p fullName) 3
+    cond (same p (ascii "reference")) 0
+    (cond (same p (ascii "horizon")) 1
+    (cond (same p (ascii "stuffing")) 2
+    (cond (same p (ascii "full")) 3
     (cond (fits 255 p) (value 0 p) 256))))
 
 -- an event, where none of the words behind the first n is wrong; else the kind of the line and its first wrong word, counted from 1
@@ -85,10 +60,10 @@ submitLine ws = submitBehind (firstWord ws) (otherWords ws)
 unfoldable pub saidBy : List ℕ → List (List ℕ) → Line
 saidBy name ws =
     cond (empty name) Nothing
-    (cond (same name boardName) (boardLine ws)
-    (cond (same name submitName) (submitLine ws)
-    (cond (same name clockName) (clockLine ws)
-    (cond (same name withdrawName) (withdrawLine ws) (Wrong 0 1)))))
+    (cond (same name (ascii "board")) (boardLine ws)
+    (cond (same name (ascii "submit")) (submitLine ws)
+    (cond (same name (ascii "clock")) (clockLine ws)
+    (cond (same name (ascii "withdraw")) (withdrawLine ws) (Wrong 0 1)))))
 
 -- WHAT A LINE SAYS
 unfoldable pub says : List ℕ → Line

@@ -12,13 +12,13 @@ use lib.Seq.{take-length}
 use Rattle.lists.specs.Lists.{indexOf, lastOr}
 use Rattle.events.specs.declared.Event.{Event}
 use Rattle.events.specs.declared.Event.the-variants.{NewBoard, Submit, Clock, Withdraw}
-use Rattle.text.specs.Text.{decimal}
+use Rattle.text.specs.Text.{ascii, decimal}
 use Rattle.text.proofs.Meaning.{Digits, decimal-value, decimal-digits}
 use Rattle.tokens.specs.declared.Sort.the-variants.{Hash}
 use Rattle.tokens.specs.Tokens.{blank, stopsAt, ended, wordsOn, words, firstWord, otherWords, same, empty, wrong, nth}
 use Rattle.tokens.proofs.Judged.{reads-decimal, some-digit}
 use Rattle.lines.specs.declared.Line.the-variants.{Says}
-use Rattle.lines.specs.Lines.{lessReturn, bare, plannerOf, saidOr, boardLine, clockLine, withdrawLine, asks, submitBehind, submitLine, saidBy, says, boardName, submitName, clockName, withdrawName}
+use Rattle.lines.specs.Lines.{lessReturn, bare, plannerOf, saidOr, boardLine, clockLine, withdrawLine, asks, submitBehind, submitLine, saidBy, says}
 use Rattle.promises.specs.Said.{joined, wordsOf, Wide}
 
 -- no comment and no carriage return among some bytes; no blank besides
@@ -119,19 +119,19 @@ planner-number n h =
       reads-decimal 255 n (omega arith),
     ) (decimal-value n)
 
-board-word : Worded boardName
+board-word : Worded (ascii "board")
 unfolding Clear Solid
 board-word = record { some = omega arith; clear = (refl, refl, (refl, refl, (refl, refl, (refl, refl, (refl, refl, tt))))); solid = (refl, (refl, (refl, (refl, (refl, tt))))) }
 
-submit-word : Worded submitName
+submit-word : Worded (ascii "submit")
 unfolding Clear Solid
 submit-word = record { some = omega arith; clear = (refl, refl, (refl, refl, (refl, refl, (refl, refl, (refl, refl, (refl, refl, tt)))))); solid = (refl, (refl, (refl, (refl, (refl, (refl, tt)))))) }
 
-clock-word : Worded clockName
+clock-word : Worded (ascii "clock")
 unfolding Clear Solid
 clock-word = record { some = omega arith; clear = (refl, refl, (refl, refl, (refl, refl, (refl, refl, (refl, refl, tt))))); solid = (refl, (refl, (refl, (refl, (refl, tt))))) }
 
-withdraw-word : Worded withdrawName
+withdraw-word : Worded (ascii "withdraw")
 unfolding Clear Solid
 withdraw-word = record {
   some = omega arith;
@@ -143,10 +143,10 @@ withdraw-word = record {
 pub says-event : (v : Event) → Wide v → says (joined (wordsOf v)) ≡ Says v
 unfolding Wide wordsOf saidBy empty same firstWord otherWords boardLine clockLine withdrawLine submitLine submitBehind asks saidOr wrong nth
 says-event (NewBoard W H) h =
-    says-words (boardName ∷ decimal W ∷ decimal H ∷ []) (more board-word (more (a-number W) (more (a-number H) none)))
+    says-words ((ascii "board") ∷ decimal W ∷ decimal H ∷ []) (more board-word (more (a-number W) (more (a-number H) none)))
     ∙ rw (reads-decimal 65535 W (omega arith), reads-decimal 65535 H (omega arith), decimal-value W, decimal-value H)
 says-event (Submit n a) h =
-    says-words (submitName ∷ decimal n ∷ decimal (a .id) ∷ decimal (a .w) ∷ decimal (a .h) ∷ decimal (a .e) ∷ decimal (a .d) ∷ [])
+    says-words ((ascii "submit") ∷ decimal n ∷ decimal (a .id) ∷ decimal (a .w) ∷ decimal (a .h) ∷ decimal (a .e) ∷ decimal (a .d) ∷ [])
     (more submit-word (more (a-number n) (more (a-number (a .id)) (more (a-number (a .w)) (more (a-number (a .h)) (more (a-number (a .e)) (more (a-number (a .d)) none)))))))
     ∙ rw (
       planner-number n (h .0),
@@ -162,5 +162,5 @@ says-event (Submit n a) h =
       decimal-value (a .e),
       decimal-value (a .d),
     )
-says-event (Clock i) h = says-words (clockName ∷ decimal i ∷ []) (more clock-word (more (a-number i) none)) ∙ rw (reads-decimal 4294967295 i (omega arith), decimal-value i)
-says-event (Withdraw n) h = says-words (withdrawName ∷ decimal n ∷ []) (more withdraw-word (more (a-number n) none)) ∙ rw (reads-decimal 4294967295 n (omega arith), decimal-value n)
+says-event (Clock i) h = says-words ((ascii "clock") ∷ decimal i ∷ []) (more clock-word (more (a-number i) none)) ∙ rw (reads-decimal 4294967295 i (omega arith), decimal-value i)
+says-event (Withdraw n) h = says-words ((ascii "withdraw") ∷ decimal n ∷ []) (more withdraw-word (more (a-number n) none)) ∙ rw (reads-decimal 4294967295 n (omega arith), decimal-value n)

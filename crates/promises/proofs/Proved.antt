@@ -19,7 +19,7 @@ use Rattle.board.specs.Answers.{told}
 use Rattle.board.specs.Calls.{orRefused, freshBoard, created, withTask, taken, answered, submitted, boardAt, clocked, withdrawn, remaining, opened, openedBuffer, listed, listedBuffer, counted}
 use Rattle.board.specs.Refusals.{refusal, refusedCreate, refusedSubmit, refusedInstant, refusedWithdraw, refusedOpenings, refusedHorizon}
 use Rattle.events.specs.Records.{bytesOf, numberOf, kindOf, bodyOf, recordOf, wholeOr15, readFrom, written, writtenBuffer, toldRead, toldWritten}
-use Rattle.session.specs.Recording.{firstState, lineOf, outcome, linesFrom, planLines}
+use Rattle.session.specs.Recording.{firstState, lineOf, outcome, storyFrom, story}
 use Rattle.promises.specs.Cases.{numbers, afterEvent, play, same, sameAll, passes, at, only}
 use Rattle.promises.specs.Edges.{refusedList, edgeSet, filled}
 use Rattle.promises.specs.ProvingSet.{played, tableWith, withClocks, firstSix, seven, listing, provingSet, twoRuns, waitingAhead, tellingSet, listingEvents, listingLines, recording}
@@ -46,7 +46,7 @@ unfolding refusal refusedCreate refusedSubmit refusedInstant refusedWithdraw ref
 open-refusals = tt
 
 open-records : Unit {0}
-unfolding bytesOf numberOf kindOf bodyOf recordOf wholeOr15 readFrom written writtenBuffer toldRead toldWritten lineOf outcome linesFrom planLines
+unfolding bytesOf numberOf kindOf bodyOf recordOf wholeOr15 readFrom written writtenBuffer toldRead toldWritten lineOf outcome storyFrom story
 open-records = tt
 
 open-cases : Unit {0}
@@ -82,25 +82,25 @@ unfolding open-book
 filled-up = refl
 
 -- THE LISTING OF DOCUMENT 01, from the bytes of its records to the lines of `plan`
-pub listing-printed : planLines (recording listingEvents) ≡ listingLines
+pub listing-printed : story (recording listingEvents) .lines ≡ listingLines
 unfolding open-book
 listing-printed = refl
 
 -- 15 and 16 get their line, kind as the byte read, and end the run; no byte is no line
-pub cut-short-printed : planLines (recordOf (NewBoard 4 1) ++ (3 ∷ 1 ∷ [])) ≡ line 1 1 0 0 0 0 ∷ line 2 3 15 0 0 0 ∷ []
+pub cut-short-printed : story (recordOf (NewBoard 4 1) ++ (3 ∷ 1 ∷ [])) .lines ≡ line 1 1 0 0 0 0 ∷ line 2 3 15 0 0 0 ∷ []
 unfolding open-book
 cut-short-printed = refl
 
-pub unknown-printed : planLines (7 ∷ recordOf (NewBoard 4 1)) ≡ line 1 7 16 0 0 0 ∷ []
+pub unknown-printed : story (7 ∷ recordOf (NewBoard 4 1)) .lines ≡ line 1 7 16 0 0 0 ∷ []
 unfolding open-book
 unknown-printed = refl
 
-pub nothing-printed : planLines [] ≡ []
+pub nothing-printed : story [] .lines ≡ []
 unfolding open-book
 nothing-printed = refl
 
 -- after as many events as are left to read it stops without a line, and that many are left at the start
-pub stops-silently : linesFrom 1 firstState 6 (recordOf (NewBoard 4 1) ++ recordOf (Clock 2)) ≡ line 7 1 0 0 0 0 ∷ []
+pub stops-silently : storyFrom 1 firstState 6 (recordOf (NewBoard 4 1) ++ recordOf (Clock 2)) .lines ≡ line 7 1 0 0 0 0 ∷ []
 unfolding open-book
 stops-silently = refl
 

@@ -3,8 +3,7 @@ use Prim.Native.Nat.{ℕ, _<_}
 use mathlib.Core.List.{List, [], _∷_, _++_}
 use Rattle.events.specs.declared.Event.{Event}
 use Rattle.events.specs.declared.Event.the-variants.{NewBoard, Submit, Clock, Withdraw}
-use Rattle.text.specs.Text.{decimal}
-use Rattle.lines.specs.Lines.{boardName, submitName, clockName, withdrawName}
+use Rattle.text.specs.Text.{ascii, decimal}
 
 -- words with one space between two
 unfoldable pub joined : List (List ℕ) → List ℕ
@@ -14,10 +13,10 @@ joined (w ∷ v ∷ ws) = w ++ (32 ∷ joined (v ∷ ws))
 
 -- "board W H", "submit PLANNER ID W H E D", "clock T", "withdraw ID", the numbers in decimal
 unfoldable pub wordsOf : Event → List (List ℕ)
-wordsOf (NewBoard W H) = boardName ∷ decimal W ∷ decimal H ∷ []
-wordsOf (Submit n a) = submitName ∷ decimal n ∷ decimal (a .id) ∷ decimal (a .w) ∷ decimal (a .h) ∷ decimal (a .e) ∷ decimal (a .d) ∷ []
-wordsOf (Clock i) = clockName ∷ decimal i ∷ []
-wordsOf (Withdraw n) = withdrawName ∷ decimal n ∷ []
+wordsOf (NewBoard W H) = (ascii "board") ∷ decimal W ∷ decimal H ∷ []
+wordsOf (Submit n a) = (ascii "submit") ∷ decimal n ∷ decimal (a .id) ∷ decimal (a .w) ∷ decimal (a .h) ∷ decimal (a .e) ∷ decimal (a .d) ∷ []
+wordsOf (Clock i) = (ascii "clock") ∷ decimal i ∷ []
+wordsOf (Withdraw n) = (ascii "withdraw") ∷ decimal n ∷ []
 
 -- "an event's fields have the record's widths"
 unfoldable pub Wide : Event → Type 0

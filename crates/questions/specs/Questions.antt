@@ -4,25 +4,10 @@ use mathlib.Core.Bool.{cond}
 use mathlib.Core.List.{List, [], _∷_}
 use lib.Dec.{eqb}
 use Rattle.tasks.specs.declared.Submission.{Submission}
+use Rattle.text.specs.Text.{ascii}
 use Rattle.tokens.specs.Tokens.{words, firstWord, otherWords, same, wrong, nth}
 use Rattle.questions.specs.declared.Question.{Question}
 use Rattle.questions.specs.declared.Question.the-variants.{Wrong, Horizon, Busy, Openings, Board, Stamp}
-
--- the names, in ASCII
-abbrev pub horizonName : List ℕ
-horizonName = 104 ∷ 111 ∷ 114 ∷ 105 ∷ 122 ∷ 111 ∷ 110 ∷ []
-
-abbrev pub busyName : List ℕ
-busyName = 98 ∷ 117 ∷ 115 ∷ 121 ∷ []
-
-abbrev pub openingsName : List ℕ
-openingsName = 111 ∷ 112 ∷ 101 ∷ 110 ∷ 105 ∷ 110 ∷ 103 ∷ 115 ∷ []
-
-abbrev pub boardName : List ℕ
-boardName = 98 ∷ 111 ∷ 97 ∷ 114 ∷ 100 ∷ []
-
-abbrev pub stampName : List ℕ
-stampName = 115 ∷ 116 ∷ 97 ∷ 109 ∷ 112 ∷ []
 
 -- a question, where its words are numbers within these limits, and no more of them
 unfoldable pub rightOr : List ℕ → List (List ℕ) → Question → Question → Question
@@ -42,11 +27,11 @@ openingsAsked ws =
 -- a question by its first word and those behind it
 unfoldable pub askedBy : List ℕ → List (List ℕ) → Question
 askedBy name ws =
-    cond (same name horizonName) (rightOr [] ws Horizon Wrong)
-    (cond (same name busyName) (rightOr (4294967295 ∷ []) ws (Busy (nth 0 ws)) Wrong)
-    (cond (same name openingsName) (openingsAsked ws)
-    (cond (same name boardName) (rightOr [] ws Board Wrong)
-    (cond (same name stampName) (rightOr (4294967295 ∷ []) ws (Stamp (nth 0 ws)) Wrong) Wrong))))
+    cond (same name (ascii "horizon")) (rightOr [] ws Horizon Wrong)
+    (cond (same name (ascii "busy")) (rightOr (4294967295 ∷ []) ws (Busy (nth 0 ws)) Wrong)
+    (cond (same name (ascii "openings")) (openingsAsked ws)
+    (cond (same name (ascii "board")) (rightOr [] ws Board Wrong)
+    (cond (same name (ascii "stamp")) (rightOr (4294967295 ∷ []) ws (Stamp (nth 0 ws)) Wrong) Wrong))))
 
 -- WHAT IS ASKED
 unfoldable pub asks : List ℕ → Question

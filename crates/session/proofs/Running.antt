@@ -37,7 +37,8 @@ use Rattle.session.specs.Standing.{Took}
 -- a whole record, and none
 pub ran-got : (m : ℕ) (b : State) (n : ℕ) (bytes : List ℕ) (v : Event) (size : ℕ) → readFrom bytes ≡ Got v size
     → let later : Run = ranFrom m (outcome b v .state) (suc n) (drop size bytes) in
-    ranFrom (suc m) b n bytes ≡ record { lines = lineOf (suc n) (kindOf v) (outcome b v .answer) ∷ later .lines; state = later .state; taken = size + later .taken }
+    ranFrom (suc m) b n bytes
+    ≡ record { lines = lineOf (suc n) (kindOf v) (outcome b v .answer) ∷ later .lines; events = v ∷ later .events; state = later .state; taken = size + later .taken }
 unfolding ranFrom
 ran-got m b n bytes v size e = rw (e, ranFrom)
 
@@ -200,12 +201,12 @@ module _ {b : State} {number most : ℕ} {bytes lent answers : List ℕ} {tasks 
         pick (inr x) = absurd (omega (arith, x .0))
 
     -- one record off what is left
-    one : rest ≡ record { lines = line ∷ later .lines; state = later .state; taken = w .size + later .taken }
+    one : rest ≡ record { lines = line ∷ later .lines; events = w .event ∷ later .events; state = later .state; taken = w .size + later .taken }
     one =
         let m : most - n ≡ suc (most - (n + 1)) = omega (arith, full) in
         let c1 : suc (number + n) ≡ number + (n + 1) = omega arith in
         ap (λ x. ranFrom x now (number + n) (drop at bytes)) m ∙ ran-got (most - (n + 1)) now (number + n) (drop at bytes) (w .event) (w .size) (t .got p)
-        ∙ ap (λ (x : Run). record { lines = line ∷ x .lines; state = x .state; taken = w .size + x .taken })
+        ∙ ap (λ (x : Run). record { lines = line ∷ x .lines; events = w .event ∷ x .events; state = x .state; taken = w .size + x .taken })
         (ap (λ x. ranFrom (most - (n + 1)) (out .state) x (drop (w .size) (drop at bytes))) c1
         ∙ ap (λ x. ranFrom (most - (n + 1)) (out .state) (number + (n + 1)) x) (drop-drop (w .size) at bytes)
         ∙ ap (λ x. ranFrom (most - (n + 1)) x (number + (n + 1)) (drop (at + w .size) bytes)) there)

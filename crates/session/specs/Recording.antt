@@ -1,11 +1,14 @@
--- The run of a recording: what the program `plan` prints for a list of bytes, and what a run over some of them does. Assumes nothing.
+-- The run of a recording: how a list of bytes goes, event by event, and what a run over some of them does. Assumes nothing.
 use Prim.Native.Nat.{ℕ, zero, suc, _+_, _-_, _/_, min}
 use mathlib.Core.List.{List, [], _∷_}
 use lib.ListN.{length, drop}
 use Rattle.lists.specs.Lists.{overFront}
 use Rattle.board.specs.Answers.{Told, bare}
+use Rattle.events.specs.declared.Event.{Event}
 use Rattle.events.specs.declared.Reading.the-variants.{End, Got, CutShort, Unknown}
 use Rattle.events.specs.Records.{kindOf, readFrom}
+use Rattle.session.specs.declared.Ending.{Ending}
+use Rattle.session.specs.declared.Ending.the-variants.{AtEnd, In15, In16, AtLast, PastLast}
 use Rattle.session.specs.declared.Ran.{Ran}
 use Rattle.steps.specs.declared.State.{State}
 pub use Rattle.steps.specs.Outcomes.{firstState, Outcome}
@@ -25,16 +28,35 @@ unfoldable pub lineOf : ℕ → ℕ → Told → Line
 lineOf n kind a =
     record { event = n; kind = kind; answer = a .number; column = a .column; start = a .start; finish = a .finish }
 
--- the lines from a state on, of which n events are done, for as many events as are left to read:
+-- how a recording goes: its lines, its events, the state that follows the last of them, and how it ends
+pub record Story : Type 0 where
+  pub lines : List Line
+  pub events : List Event
+  pub state : State
+  pub end : Ending
+
+-- no further event; the line of a 15 or 16 is the last one
+abbrev pub endsIn : List Line → State → Ending → Story
+endsIn last s e = record { lines = last; events = []; state = s; end = e }
+
+-- HOW A RECORDING GOES from a state on, of which n events are done, for as many events as are left to read:
 -- "After 15 or 16 it prints that line (kind as the byte read, zeros) and stops"
-unfoldable pub linesFrom : ℕ → State → ℕ → List ℕ → List Line
-linesFrom zero s n bytes = []
-linesFrom (suc left) s n bytes =
+unfoldable pub storyFrom : ℕ → State → ℕ → List ℕ → Story
+storyFrom zero s n [] = endsIn [] s AtLast
+storyFrom zero s n (b ∷ bytes) = endsIn [] s PastLast
+storyFrom (suc left) s n bytes =
     elim (readFrom bytes) [
-      | End ↦ []
-      | Got v size ↦ lineOf (suc n) (kindOf v) (outcome s v .answer) ∷ linesFrom left (outcome s v .state) (suc n) (drop size bytes)
-      | CutShort k ↦ lineOf (suc n) k (bare 15) ∷ []
-      | Unknown k ↦ lineOf (suc n) k (bare 16) ∷ []
+      | End ↦ endsIn [] s AtEnd
+      | Got v size ↦
+          let next = storyFrom left (outcome s v .state) (suc n) (drop size bytes) in
+          record {
+            lines = lineOf (suc n) (kindOf v) (outcome s v .answer) ∷ next .lines;
+            events = v ∷ next .events;
+            state = next .state;
+            end = next .end;
+          }
+      | CutShort k ↦ endsIn (lineOf (suc n) k (bare 15) ∷ []) s (In15 k)
+      | Unknown k ↦ endsIn (lineOf (suc n) k (bare 16) ∷ []) s (In16 k)
     ]
 
 -- "it also stops, without a line, after 1,000,000,000 events"
@@ -42,18 +64,19 @@ abbrev pub mostEvents : ℕ
 mostEvents = 1000000000
 
 -- "The program `plan` .. begins with an unsound board of zeros"
-unfoldable pub planLines : List ℕ → List Line
-planLines bytes = linesFrom mostEvents firstState 0 bytes
+unfoldable pub story : List ℕ → Story
+story bytes = storyFrom mostEvents firstState 0 bytes
 
--- what a run over some bytes has done: the lines, the state that follows, the bytes taken
+-- what a run over some bytes has done: the lines, the events, the state that follows, the bytes taken
 pub record Run : Type 0 where
   pub lines : List Line
+  pub events : List Event
   pub state : State
   pub taken : ℕ
 
 -- nothing is done
 abbrev pub still : State → Run
-still s = record { lines = []; state = s; taken = 0 }
+still s = record { lines = []; events = []; state = s; taken = 0 }
 
 -- THE RUN: whole records from a state on, of which n events are done, at most `room` of them; it stops before a 15, a 16 and the end
 unfoldable pub ranFrom : ℕ → State → ℕ → List ℕ → Run
@@ -65,6 +88,7 @@ ranFrom (suc room) s n bytes =
           let next = ranFrom room (outcome s v .state) (suc n) (drop size bytes) in
           record {
             lines = lineOf (suc n) (kindOf v) (outcome s v .answer) ∷ next .lines;
+            events = v ∷ next .events;
             state = next .state;
             taken = size + next .taken;
           }

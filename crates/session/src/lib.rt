@@ -20,6 +20,17 @@ use tasks::Task;
 // "it also stops, without a line, after 1,000,000,000 events".
 pub const MOST_EVENTS: u32 = 1_000_000_000;
 
+// How a recording ends: not yet; after a whole record; in 15 or 16, with the kind byte; at the last event that may be, with no
+// byte after it, or with one.
+pub enum Ending {
+    NotYet,
+    AtEnd,
+    In15(u8),
+    In16(u8),
+    AtLast,
+    PastLast,
+}
+
 // How many whole records were taken, their bytes, and the state that follows.
 pub struct Ran {
     pub count: usize,

@@ -1,10 +1,21 @@
--- Numbers as text, in ASCII: a number, a row of numbers, rows. Assumes nothing.
+-- Text in ASCII: a quoted text, a number, a row of numbers, rows. Assumes nothing.
 use Prim.Native.Nat.{ℕ, zero, suc, _+_, _-_, _*_, _/_, _%_}
+use Prim.Native.Char.{code}
+use Prim.Native.String.{String, len, charAt}
 use mathlib.Core.Bool.{cond}
 use mathlib.Core.List.{List, [], _∷_, _++_, map}
 use lib.Dec.{ltb}
 use lib.ListN.{take, drop}
 use Rattle.lists.specs.Lists.{each}
+
+-- n characters of a quoted text from a place on, each by its code
+abbrev pub codes : ℕ → ℕ → String → List ℕ
+codes zero at s = []
+codes (suc n) at s = code (charAt s at) ∷ codes n (suc at) s
+
+-- the bytes of a quoted text, which is ASCII
+abbrev pub ascii : String → List ℕ
+ascii s = codes (len s) 0 s
 
 -- the digits of a number below 10 are one, of another those of its tenth and its last one; at most so many of them
 unfoldable pub decimalIn : ℕ → ℕ → List ℕ

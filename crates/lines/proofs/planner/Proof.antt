@@ -4,10 +4,9 @@ use mathlib.Core.Path.{_≡_, sym, _∙_}
 use mathlib.Core.Bool.{true, false}
 use mathlib.Core.List.{List}
 use native.Mathlib.Omega.{arith}
-use Rattle.text.specs.Text.{value}
+use Rattle.text.specs.Text.{ascii, value}
 use Rattle.tokens.specs.Tokens.{same, fits}
 use Rattle.tokens.proofs.Judged.{fits-most}
-use Rattle.lines.specs.Lines.{referenceName, horizonName, stuffingName, fullName}
 use Rattle.lines.proofs.Saying.{planner-0, planner-1, planner-2, planner-3, planner-4, planner-5}
 use borrow.Author.Needs.{needs}
 use Rattle.lines.proofs.planner.Statement.{statement}
@@ -28,16 +27,16 @@ abbrev word : tie.Else1 → List ℕ
 word c = c .before .before .before .before .args .word .now
 
 -- what each test that was left says of it
-not-reference : (c : tie.Else1) → same (word c) referenceName ≡ false
+not-reference : (c : tie.Else1) → same (word c) (ascii "reference") ≡ false
 not-reference c = sym (c .before .is-name .ensures) ∙ c .if1 .left
 
-not-horizon : (c : tie.Else2) → same (word (else1 c)) horizonName ≡ false
+not-horizon : (c : tie.Else2) → same (word (else1 c)) (ascii "horizon") ≡ false
 not-horizon c = sym (c .before .is-name2 .ensures) ∙ c .if2 .left
 
-not-stuffing : (c : tie.Else3) → same (word (else1 (else2 c))) stuffingName ≡ false
+not-stuffing : (c : tie.Else3) → same (word (else1 (else2 c))) (ascii "stuffing") ≡ false
 not-stuffing c = sym (c .before .is-name3 .ensures) ∙ c .if3 .left
 
-not-full : (c : tie.Else4) → same (word (else1 (else2 (else3 c)))) fullName ≡ false
+not-full : (c : tie.Else4) → same (word (else1 (else2 (else3 c)))) (ascii "full") ≡ false
 not-full c = sym (c .before .is-name4 .ensures) ∙ c .if4 .left
 
 slice-aggregate-is-name : tie.Need-slice-aggregate-is-name

@@ -4,10 +4,11 @@ use mathlib.Core.Path.{_≡_, sym, _∙_}
 use mathlib.Core.Bool.{true, false}
 use mathlib.Core.List.{List}
 use lib.ListN.{drop}
+use Rattle.text.specs.Text.{ascii}
 use Rattle.tokens.specs.Tokens.{words, firstWord, otherWords, same, empty}
 use Rattle.tokens.specs.Walks.{part}
 use Rattle.tokens.proofs.Walking.{a-word}
-use Rattle.lines.specs.Lines.{saidBy, boardName, submitName, clockName, withdrawName}
+use Rattle.lines.specs.Lines.{saidBy}
 use Rattle.lines.proofs.Saying.{said-nothing, said-board, said-submit, said-clock, said-withdraw, said-other}
 use borrow.Author.Needs.{needs}
 use Rattle.lines.proofs.said.Statement.{statement}
@@ -56,16 +57,16 @@ read4 c = read3 (else3 c)
 not-empty : (c : tie.Else1) → empty (name (read1 c)) ≡ false
 not-empty c = sym (c .before .is-empty .ensures) ∙ c .if1 .left
 
-not-board : (c : tie.Else2) → same (name (read2 c)) boardName ≡ false
+not-board : (c : tie.Else2) → same (name (read2 c)) (ascii "board") ≡ false
 not-board c = sym (c .before .is-name .ensures) ∙ c .if2 .left
 
-not-submit : (c : tie.Else3) → same (name (read3 c)) submitName ≡ false
+not-submit : (c : tie.Else3) → same (name (read3 c)) (ascii "submit") ≡ false
 not-submit c = sym (c .before .is-name2 .ensures) ∙ c .if3 .left
 
-not-clock : (c : tie.Else4) → same (name (read4 c)) clockName ≡ false
+not-clock : (c : tie.Else4) → same (name (read4 c)) (ascii "clock") ≡ false
 not-clock c = sym (c .before .is-name3 .ensures) ∙ c .if4 .left
 
-not-withdraw : (c : tie.Else5) → same (name (read4 (else4 c))) withdrawName ≡ false
+not-withdraw : (c : tie.Else5) → same (name (read4 (else4 c))) (ascii "withdraw") ≡ false
 not-withdraw c = sym (c .before .is-name4 .ensures) ∙ c .if5 .left
 
 next-requires : tie.Need-next-requires
@@ -100,7 +101,7 @@ board-line-requires c κs = search needs
 returns-2 : tie.Need-returns-2
 returns-2 c =
     let e1 = c .before .before .before .before in
-    let yes : same (name (read1 e1)) boardName ≡ true = sym (c .before .before .is-name .ensures) ∙ c .before .if2 .taken in
+    let yes : same (name (read1 e1)) (ascii "board") ≡ true = sym (c .before .before .is-name .ensures) ∙ c .before .if2 .taken in
     c .board-line .ensures ∙ said-board _ _ (not-empty e1) yes ∙ by-word (read1 e1)
 
 slice-aggregate-is-name-2 : tie.Need-slice-aggregate-is-name-2
@@ -116,7 +117,7 @@ returns-3 : tie.Need-returns-3
 returns-3 c =
     let e2 = c .before .before .before .before in
     let e1 = else1 e2 in
-    let yes : same (name (read2 e2)) submitName ≡ true = sym (c .before .before .is-name2 .ensures) ∙ c .before .if3 .taken in
+    let yes : same (name (read2 e2)) (ascii "submit") ≡ true = sym (c .before .before .is-name2 .ensures) ∙ c .before .if3 .taken in
     c .submit-line .ensures ∙ said-submit _ _ (not-empty e1) (not-board e2) yes ∙ by-word (read2 e2)
 
 slice-aggregate-is-name-3 : tie.Need-slice-aggregate-is-name-3
@@ -133,7 +134,7 @@ returns-4 c =
     let e3 = c .before .before .before .before in
     let e2 = else2 e3 in
     let e1 = else1 e2 in
-    let yes : same (name (read3 e3)) clockName ≡ true = sym (c .before .before .is-name3 .ensures) ∙ c .before .if4 .taken in
+    let yes : same (name (read3 e3)) (ascii "clock") ≡ true = sym (c .before .before .is-name3 .ensures) ∙ c .before .if4 .taken in
     c .clock-line .ensures ∙ said-clock _ _ (not-empty e1) (not-board e2) (not-submit e3) yes ∙ by-word (read3 e3)
 
 slice-aggregate-is-name-4 : tie.Need-slice-aggregate-is-name-4
@@ -151,7 +152,7 @@ returns-5 c =
     let e3 = else3 e4 in
     let e2 = else2 e3 in
     let e1 = else1 e2 in
-    let yes : same (name (read4 e4)) withdrawName ≡ true = sym (c .before .before .is-name4 .ensures) ∙ c .before .if5 .taken in
+    let yes : same (name (read4 e4)) (ascii "withdraw") ≡ true = sym (c .before .before .is-name4 .ensures) ∙ c .before .if5 .taken in
     c .withdraw-line .ensures ∙ said-withdraw _ _ (not-empty e1) (not-board e2) (not-submit e3) (not-clock e4) yes ∙ by-word (read4 e4)
 
 returns-6 : tie.Need-returns-6

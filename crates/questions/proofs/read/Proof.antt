@@ -4,10 +4,11 @@ use mathlib.Core.Path.{_≡_, sym, _∙_}
 use mathlib.Core.Bool.{true, false}
 use mathlib.Core.List.{List}
 use lib.ListN.{drop}
+use Rattle.text.specs.Text.{ascii}
 use Rattle.tokens.specs.Tokens.{words, same}
 use Rattle.tokens.specs.Walks.{part}
 use Rattle.tokens.proofs.Walking.{a-word}
-use Rattle.questions.specs.Questions.{askedBy, asks, horizonName, busyName, openingsName, boardName, stampName}
+use Rattle.questions.specs.Questions.{askedBy, asks}
 use Rattle.questions.proofs.Asking.{asked-horizon, asked-busy, asked-openings, asked-board, asked-stamp, asked-other}
 use borrow.Author.Needs.{needs}
 use Rattle.questions.proofs.read.Statement.{statement}
@@ -54,19 +55,19 @@ abbrev read4 : tie.Else4 → tie.After-next
 read4 c = read3 (else3 c)
 
 -- what each test that was left says of the word
-not-horizon : (c : tie.Else1) → same (name (read1 c)) horizonName ≡ false
+not-horizon : (c : tie.Else1) → same (name (read1 c)) (ascii "horizon") ≡ false
 not-horizon c = sym (c .before .is-name .ensures) ∙ c .if1 .left
 
-not-busy : (c : tie.Else2) → same (name (read2 c)) busyName ≡ false
+not-busy : (c : tie.Else2) → same (name (read2 c)) (ascii "busy") ≡ false
 not-busy c = sym (c .before .is-name2 .ensures) ∙ c .if2 .left
 
-not-openings : (c : tie.Else3) → same (name (read3 c)) openingsName ≡ false
+not-openings : (c : tie.Else3) → same (name (read3 c)) (ascii "openings") ≡ false
 not-openings c = sym (c .before .is-name3 .ensures) ∙ c .if3 .left
 
-not-board : (c : tie.Else4) → same (name (read4 c)) boardName ≡ false
+not-board : (c : tie.Else4) → same (name (read4 c)) (ascii "board") ≡ false
 not-board c = sym (c .before .is-name4 .ensures) ∙ c .if4 .left
 
-not-stamp : (c : tie.Else5) → same (name (read4 (else4 c))) stampName ≡ false
+not-stamp : (c : tie.Else5) → same (name (read4 (else4 c))) (ascii "stamp") ≡ false
 not-stamp c = sym (c .before .is-name5 .ensures) ∙ c .if5 .left
 
 next-requires : tie.Need-next-requires
@@ -93,7 +94,7 @@ alone-requires c κs = search needs
 returns : tie.Need-returns
 returns c =
     let r = c .before .before .before .before .before in
-    let yes : same (name r) horizonName ≡ true = sym (c .before .before .is-name .ensures) ∙ c .before .if1 .taken in
+    let yes : same (name r) (ascii "horizon") ≡ true = sym (c .before .before .is-name .ensures) ∙ c .before .if1 .taken in
     c .alone .ensures ∙ asked-horizon _ _ yes ∙ by-word r
 
 slice-aggregate-is-name-2 : tie.Need-slice-aggregate-is-name-2
@@ -108,7 +109,7 @@ busy-requires c κs = search needs
 returns-2 : tie.Need-returns-2
 returns-2 c =
     let e1 = c .before .before .before .before in
-    let yes : same (name (read1 e1)) busyName ≡ true = sym (c .before .before .is-name2 .ensures) ∙ c .before .if2 .taken in
+    let yes : same (name (read1 e1)) (ascii "busy") ≡ true = sym (c .before .before .is-name2 .ensures) ∙ c .before .if2 .taken in
     c .busy .ensures ∙ asked-busy _ _ (not-horizon e1) yes ∙ by-word (read1 e1)
 
 slice-aggregate-is-name-3 : tie.Need-slice-aggregate-is-name-3
@@ -124,7 +125,7 @@ returns-3 : tie.Need-returns-3
 returns-3 c =
     let e2 = c .before .before .before .before in
     let e1 = else1 e2 in
-    let yes : same (name (read2 e2)) openingsName ≡ true = sym (c .before .before .is-name3 .ensures) ∙ c .before .if3 .taken in
+    let yes : same (name (read2 e2)) (ascii "openings") ≡ true = sym (c .before .before .is-name3 .ensures) ∙ c .before .if3 .taken in
     c .openings .ensures ∙ asked-openings _ _ (not-horizon e1) (not-busy e2) yes ∙ by-word (read2 e2)
 
 slice-aggregate-is-name-4 : tie.Need-slice-aggregate-is-name-4
@@ -141,7 +142,7 @@ returns-4 c =
     let e3 = c .before .before .before .before in
     let e2 = else2 e3 in
     let e1 = else1 e2 in
-    let yes : same (name (read3 e3)) boardName ≡ true = sym (c .before .before .is-name4 .ensures) ∙ c .before .if4 .taken in
+    let yes : same (name (read3 e3)) (ascii "board") ≡ true = sym (c .before .before .is-name4 .ensures) ∙ c .before .if4 .taken in
     c .alone2 .ensures ∙ asked-board _ _ (not-horizon e1) (not-busy e2) (not-openings e3) yes ∙ by-word (read3 e3)
 
 slice-aggregate-is-name-5 : tie.Need-slice-aggregate-is-name-5
@@ -159,7 +160,7 @@ returns-5 c =
     let e3 = else3 e4 in
     let e2 = else2 e3 in
     let e1 = else1 e2 in
-    let yes : same (name (read4 e4)) stampName ≡ true = sym (c .before .before .is-name5 .ensures) ∙ c .before .if5 .taken in
+    let yes : same (name (read4 e4)) (ascii "stamp") ≡ true = sym (c .before .before .is-name5 .ensures) ∙ c .before .if5 .taken in
     c .stamp .ensures ∙ asked-stamp _ _ (not-horizon e1) (not-busy e2) (not-openings e3) (not-board e4) yes ∙ by-word (read4 e4)
 
 returns-6 : tie.Need-returns-6
