@@ -3,3 +3,4 @@ pub mod Writing
 pub mod Told
 pub mod RoundTrip
 pub mod Calls
+pub mod Pieces

@@ -1,26 +1,28 @@
 -- A run tells how its recording begins, and the recording goes on from the state, the events and the bytes that the run leaves. Assumes nothing.
-use Prim.Native.Nat.{ℕ, zero, suc, _+_, _-_, _≤_}
-use mathlib.Core.Path.{_≡_, refl, sym, ap, _∙_}
+use Prim.Native.Nat.{ℕ, zero, suc, _+_, _-_, _≤_, _<_}
+use mathlib.Core.Path.{_≡_, refl, sym, ap, _∙_, subst}
 use mathlib.Core.List.{List, [], _∷_, _++_}
 use native.Mathlib.Omega.{arith}
 use lib.ListN.{length, drop}
-use lib.Seq.{drop-drop}
+use lib.Seq.{drop-drop, drop-append-le}
 use Rattle.steps.specs.declared.State.{State}
 use Rattle.events.specs.declared.Event.{Event}
 use Rattle.events.specs.declared.Reading.{Reading}
 use Rattle.events.specs.declared.Reading.the-variants.{End, Got, CutShort, Unknown}
 use Rattle.events.specs.Records.{kindOf, readFrom}
+use Rattle.events.proofs.Calls.{taken-there}
+use Rattle.events.proofs.Pieces.{got-longer}
 use Rattle.session.specs.Recording.{Line, lineOf, outcome, Story, storyFrom, Run, still, ranFrom}
-use Rattle.session.proofs.Running.{ran-got}
+use Rattle.session.proofs.Running.{ran-got, ran-none}
 
 -- lines and events before a story
 abbrev pub told : List Line → List Event → Story → Story
 told ls vs s = record { lines = ls ++ s .lines; events = vs ++ s .events; state = s .state; end = s .end }
 
--- a run, and how its recording goes on after it
-abbrev pub goesOn : ℕ → ℕ → List ℕ → Run → Story
-goesOn left n bytes r =
-    told (r .lines) (r .events) (storyFrom (left - length (r .lines)) (r .state) (n + length (r .lines)) (drop (r .taken) bytes))
+-- a run over some bytes, and how the recording goes on after it with those that are left and more
+abbrev pub goesOn : ℕ → ℕ → List ℕ → List ℕ → Run → Story
+goesOn left n bytes more r =
+    told (r .lines) (r .events) (storyFrom (left - length (r .lines)) (r .state) (n + length (r .lines)) (drop (r .taken) bytes ++ more))
 
 pub story-got : (left : ℕ) (b : State) (n : ℕ) (bytes : List ℕ) (v : Event) (size : ℕ) → readFrom bytes ≡ Got v size
     → let next : Story = storyFrom left (outcome b v .state) (suc n) (drop size bytes) in
@@ -29,23 +31,25 @@ pub story-got : (left : ℕ) (b : State) (n : ℕ) (bytes : List ℕ) (v : Event
 unfolding storyFrom
 story-got left b n bytes v size e = rw (e, storyFrom)
 
-pub run-story : (left room : ℕ) (b : State) (n : ℕ) (bytes : List ℕ) → room ≤ left → storyFrom left b n bytes ≡ goesOn left n bytes (ranFrom room b n bytes)
+-- A RUN tells how the recording begins, whatever follows its bytes
+pub run-story : (left room : ℕ) (b : State) (n : ℕ) (bytes more : List ℕ) → room ≤ left
+    → storyFrom left b n (bytes ++ more) ≡ goesOn left n bytes more (ranFrom room b n bytes)
 unfolding ranFrom
-run-story left zero b n bytes h =
+run-story left zero b n bytes more h =
     let x : left ≡ left - 0 = omega arith in
     let y : n ≡ n + 0 = omega arith in
-    ap (λ m. storyFrom m b n bytes) x ∙ ap (λ m. storyFrom (left - 0) b m bytes) y
-run-story zero (suc room) b n bytes h = absurd (omega arith)
-run-story (suc left) (suc room) b n bytes h = go (λ c m ws. run-story left room c m ws (omega arith)) (readFrom bytes) refl
+    ap (λ m. storyFrom m b n (bytes ++ more)) x ∙ ap (λ m. storyFrom (left - 0) b m (bytes ++ more)) y
+run-story zero (suc room) b n bytes more h = absurd (omega arith)
+run-story (suc left) (suc room) b n bytes more h = go (λ c m ws. run-story left room c m ws more (omega arith)) (readFrom bytes) refl
   where
-    stopped : ranFrom (suc room) b n bytes ≡ still b → storyFrom (suc left) b n bytes ≡ goesOn (suc left) n bytes (ranFrom (suc room) b n bytes)
+    stopped : ranFrom (suc room) b n bytes ≡ still b → storyFrom (suc left) b n (bytes ++ more) ≡ goesOn (suc left) n bytes more (ranFrom (suc room) b n bytes)
     stopped e =
         let y : n ≡ n + 0 = omega arith in
         let x : suc left ≡ suc left - 0 = omega arith in
-        ap (λ m. storyFrom (suc left) b m bytes) y ∙ ap (λ m. storyFrom m b (n + 0) bytes) x ∙ sym (ap (goesOn (suc left) n bytes) e)
+        ap (λ m. storyFrom (suc left) b m (bytes ++ more)) y ∙ ap (λ m. storyFrom m b (n + 0) (bytes ++ more)) x ∙ sym (ap (goesOn (suc left) n bytes more) e)
 
-    go : ((c : State) (m : ℕ) (ws : List ℕ) → storyFrom left c m ws ≡ goesOn left m ws (ranFrom room c m ws)) → (r : Reading) → readFrom bytes ≡ r
-        → storyFrom (suc left) b n bytes ≡ goesOn (suc left) n bytes (ranFrom (suc room) b n bytes)
+    go : ((c : State) (m : ℕ) (ws : List ℕ) → storyFrom left c m (ws ++ more) ≡ goesOn left m ws more (ranFrom room c m ws)) → (r : Reading) → readFrom bytes ≡ r
+        → storyFrom (suc left) b n (bytes ++ more) ≡ goesOn (suc left) n bytes more (ranFrom (suc room) b n bytes)
     go next End e = stopped (rw (e, ranFrom))
     go next (CutShort k) e = stopped (rw (e, ranFrom))
     go next (Unknown k) e = stopped (rw (e, ranFrom))
@@ -55,10 +59,47 @@ run-story (suc left) (suc room) b n bytes h = go (λ c m ws. run-story left room
         let x : left - k ≡ suc left - suc k = omega arith in
         let y : suc n + k ≡ n + suc k = omega arith in
         let line : Line = lineOf (suc n) (kindOf v) (outcome b v .answer) in
-        let rest : ℕ → ℕ → List ℕ → Story = λ m j ws. told (line ∷ r .lines) (v ∷ r .events) (storyFrom m (r .state) j ws) in
-        story-got left b n bytes v size e
+        let rest : ℕ → ℕ → List ℕ → Story = λ m j ws. told (line ∷ r .lines) (v ∷ r .events) (storyFrom m (r .state) j (ws ++ more)) in
+        story-got left b n (bytes ++ more) v size (got-longer bytes more v size e)
+        ∙ ap (λ ws. told (line ∷ []) (v ∷ []) (storyFrom left (outcome b v .state) (suc n) ws)) (drop-append-le size bytes more (taken-there bytes v size e .1))
         ∙ ap (told (line ∷ []) (v ∷ [])) (next (outcome b v .state) (suc n) (drop size bytes))
         ∙ ap (λ m. rest m (suc n + k) (drop (r .taken) (drop size bytes))) x
         ∙ ap (λ j. rest (suc left - suc k) j (drop (r .taken) (drop size bytes))) y
         ∙ ap (rest (suc left - suc k) (n + suc k)) (drop-drop (r .taken) size bytes)
-        ∙ sym (ap (goesOn (suc left) n bytes) (ran-got room b n bytes v size e))
+        ∙ sym (ap (goesOn (suc left) n bytes more) (ran-got room b n bytes v size e))
+
+-- a run gives no more lines than there is room for
+pub run-few : (room : ℕ) (b : State) (n : ℕ) (bytes : List ℕ) → length (ranFrom room b n bytes .lines) ≤ room
+unfolding ranFrom
+run-few zero b n bytes = omega arith
+run-few (suc room) b n bytes = go (λ c m ws. run-few room c m ws) (readFrom bytes) refl
+  where
+    go : ((c : State) (m : ℕ) (ws : List ℕ) → length (ranFrom room c m ws .lines) ≤ room) → (r : Reading) → readFrom bytes ≡ r → length (ranFrom (suc room) b n bytes .lines) ≤ suc room
+    go next End e = rw (e, ranFrom) (omega arith)
+    go next (CutShort k) e = rw (e, ranFrom) (omega arith)
+    go next (Unknown k) e = rw (e, ranFrom) (omega arith)
+    go next (Got v size) e = subst (λ (x : Run). length (x .lines) ≤ suc room) (sym (ran-got room b n bytes v size e)) (let h = next (outcome b v .state) (suc n) (drop size bytes) in omega arith)
+
+-- where there was room for more, the next is no whole record
+pub run-stops : (room : ℕ) (b : State) (n : ℕ) (bytes : List ℕ) → length (ranFrom room b n bytes .lines) < room
+    → (v : Event) (size : ℕ) → readFrom (drop (ranFrom room b n bytes .taken) bytes) ≡ Got v size → ⊥
+run-stops zero b n bytes h v size q = absurd (omega arith)
+run-stops (suc room) b n bytes h v size q = go (λ c m ws f x. run-stops room c m ws f v size x) (readFrom bytes) refl
+  where
+    stopped : ranFrom (suc room) b n bytes ≡ still b → readFrom bytes ≡ Got v size
+    stopped x = ap (λ (y : Run). readFrom (drop (y .taken) bytes)) (sym x) ∙ q
+
+    none : (r : Reading) → ((w : Event) (m : ℕ) → r ≡ Got w m → ⊥) → readFrom bytes ≡ r → ⊥
+    none r f e = f v size (sym e ∙ stopped (ran-none (suc room) b n bytes (λ w m x. f w m (sym e ∙ x))))
+
+    go : ((c : State) (m : ℕ) (ws : List ℕ) → length (ranFrom room c m ws .lines) < room → readFrom (drop (ranFrom room c m ws .taken) ws) ≡ Got v size → ⊥)
+        → (r : Reading) → readFrom bytes ≡ r → ⊥
+    go below End e = none End (λ w m x. let z : _≡_ {A = ℕ} 0 1 = cc in omega arith) e
+    go below (CutShort k) e = none (CutShort k) (λ w m x. let z : _≡_ {A = ℕ} 0 1 = cc in omega arith) e
+    go below (Unknown k) e = none (Unknown k) (λ w m x. let z : _≡_ {A = ℕ} 0 1 = cc in omega arith) e
+    go below (Got w m) e =
+        let next : Run = ranFrom room (outcome b w .state) (suc n) (drop m bytes) in
+        let got = ran-got room b n bytes w m e in
+        let fewer : suc (length (next .lines)) < suc room = subst (λ (y : Run). length (y .lines) < suc room) got h in
+        below (outcome b w .state) (suc n) (drop m bytes) (omega arith)
+        (ap readFrom (drop-drop (next .taken) m bytes) ∙ ap (λ (y : Run). readFrom (drop (y .taken) bytes)) (sym got) ∙ q)

@@ -57,12 +57,12 @@ ran-none (suc m) b n bytes f = go (readFrom bytes) refl
     go (CutShort k) e = rw (e, ranFrom)
     go (Unknown k) e = rw (e, ranFrom)
 
-words-append : (xs ys : List Line) → lineNumbers (xs ++ ys) ≡ lineNumbers xs ++ lineNumbers ys
+pub words-append : (xs ys : List Line) → lineNumbers (xs ++ ys) ≡ lineNumbers xs ++ lineNumbers ys
 unfolding lineNumbers
 words-append [] ys = refl
 words-append (x ∷ xs) ys = ap (λ l. x .event ∷ x .kind ∷ x .answer ∷ x .column ∷ x .start ∷ x .finish ∷ l) (words-append xs ys)
 
-words-length : (xs : List Line) → length (lineNumbers xs) ≡ length xs * 6
+pub words-length : (xs : List Line) → length (lineNumbers xs) ≡ length xs * 6
 unfolding lineNumbers
 words-length [] = refl
 words-length (x ∷ xs) = let h = words-length xs in omega arith

@@ -61,7 +61,7 @@ pub fn put_line(
 }
 
 // How many events more: six words a line, and 1,000,000,000 events in all.
-fn room(words: usize, number: u32) -> usize
+pub fn room(words: usize, number: u32) -> usize
     ensures { λ r. ⌜ r ≡ roomFor words number ⌝ }
 {
     if MOST_EVENTS < number {
