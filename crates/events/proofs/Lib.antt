@@ -2,4 +2,5 @@ pub mod Found
 pub mod Writing
 pub mod Told
 pub mod RoundTrip
+pub mod Widths
 pub mod Calls
