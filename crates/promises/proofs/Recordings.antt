@@ -2,7 +2,7 @@
 use Prim.Native.Nat.{ℕ, zero, suc, _+_, _≤_, _<_}
 use mathlib.Core.Path.{_≡_, refl, sym, ap, _∙_, subst}
 use mathlib.Core.Logic.{_⊎_, inl, inr}
-use mathlib.Core.List.{List, [], _∷_, _++_, List·Memᴰ·cases-cons as cases, List·Memᴰ·not-nil as nowhere}
+use mathlib.Core.List.{List, [], _∷_, _++_, Memᴰ·append-left, List·Memᴰ·cases-cons as cases, List·Memᴰ·not-nil as nowhere}
 use native.Mathlib.Omega.{arith}
 use native.Mathlib.Nat.{zero-add}
 use lib.ListN.{length, drop}
@@ -15,20 +15,26 @@ use Rattle.events.specs.Records.{kindOf, readFrom}
 use Rattle.events.proofs.RoundTrip.{Bytes, Fits, board, submission, instant, name}
 use Rattle.events.proofs.Widths.{bytes-drop, read-fits}
 use Rattle.steps.specs.declared.State.{State}
+use Rattle.session.specs.declared.Ran.{Ran}
 use Rattle.session.specs.Recording.{Line, lineOf, firstState, outcome, Story, storyFrom, story, Run, ranFrom, lineNumbers, roomFor, ran, ranBuffer}
 use Rattle.session.proofs.Stories.{lastLine, endsAfter, story-run}
 use Rattle.session.proofs.run.Reads as run
-use Rattle.promises.specs.Ledger.{Account, accountAfter}
-use Rattle.promises.proofs.Session.{Named, new, submit, clock, withdraw, Honest, honest-session, honest-none}
+use Rattle.promises.specs.Ledger.{ledgerAfter, Account, accountAfter}
+use Rattle.promises.proofs.Session.{Named, new, submit, clock, withdraw, Honest, honest-session, honest-none, honest-from}
 
 -- a state and its promises
-abbrev pub from : State → List Task → Account
-from s ks = record { state = s; promises = ks }
+abbrev pub account : State → List Task → Account
+account s ks = record { state = s; promises = ks }
 
 -- the lines of some events from a state on, of which n are done
 unfoldable pub linesOf : ℕ → State → List Event → List Line
 linesOf n s [] = []
 linesOf n s (v ∷ vs) = lineOf (suc n) (kindOf v) (outcome s v .answer) ∷ linesOf (suc n) (outcome s v .state) vs
+
+lines-length : (n : ℕ) (s : State) (vs : List Event) → length (linesOf n s vs) ≡ length vs
+unfolding linesOf
+lines-length n s [] = refl
+lines-length n s (v ∷ vs) = ap suc (lines-length (suc n) (outcome s v .state) vs)
 
 -- an event whose fields fit has an id that fits
 fits-named : {v : Event} → Fits v → Named v
@@ -60,7 +66,7 @@ unfolding linesOf
 played-lines none = refl
 played-lines (more {s} {n} {v} e p) = ap (λ ls. lineOf (suc n) (kindOf v) (outcome s v .answer) ∷ ls) (played-lines p)
 
-played-state : {s t : State} {n : ℕ} {bytes : List ℕ} {ls : List Line} {vs : List Event} → Played s n bytes ls vs t → (ks : List Task) → accountAfter (from s ks) vs .state ≡ t
+played-state : {s t : State} {n : ℕ} {bytes : List ℕ} {ls : List Line} {vs : List Event} → Played s n bytes ls vs t → (ks : List Task) → accountAfter (account s ks) vs .state ≡ t
 unfolding accountAfter
 played-state none ks = refl
 played-state (more e p) ks = played-state p _
@@ -87,15 +93,29 @@ module _ (s : State) (n : ℕ) (bytes : List ℕ) where
   run-lines room = played-lines (played room s n bytes)
 
   -- THE STATE OF A RUN is the account's, whatever was promised before
-  pub run-state : (room : ℕ) (ks : List Task) → accountAfter (from s ks) (ranFrom room s n bytes .events) .state ≡ ranFrom room s n bytes .state
+  pub run-state : (room : ℕ) (ks : List Task) → accountAfter (account s ks) (ranFrom room s n bytes .events) .state ≡ ranFrom room s n bytes .state
   run-state room = played-state (played room s n bytes)
 
   -- THE PROMISES OF A RUN are kept
   pub run-honest : (room : ℕ) (ks : List Task) → Bytes bytes → Honest (s .board) ks
-      → Honest (ranFrom room s n bytes .state .board) (accountAfter (from s ks) (ranFrom room s n bytes .events) .promises)
+      → Honest (ranFrom room s n bytes .state .board) (accountAfter (account s ks) (ranFrom room s n bytes .events) .promises)
   run-honest room ks h o =
       let vs = ranFrom room s n bytes .events in
-      subst (λ t. Honest (t .board) (accountAfter (from s ks) vs .promises)) (run-state room ks) (honest-session (from s ks) vs (run-named room h) o)
+      subst (λ t. Honest (t .board) (accountAfter (account s ks) vs .promises)) (run-state room ks) (honest-session (account s ks) vs (run-named room h) o)
+
+  -- whatever `session::run` may return
+  pub ran-honest : {r : Ran} (words : ℕ) → r ≡ ran s n bytes words → (ks : List Task) → Bytes bytes → Honest (s .board) ks
+      → Honest (r .state .board) (accountAfter (account s ks) (eventsIn s n bytes words) .promises)
+  unfolding ran
+  ran-honest words e ks h o = subst (λ x. Honest (x .state .board) (accountAfter (account s ks) (eventsIn s n bytes words) .promises)) (sym e) (run-honest (roomFor words n) ks h o)
+
+  ran-count : (words : ℕ) → ran s n bytes words .count ≡ length (eventsIn s n bytes words)
+  unfolding ran
+  ran-count words = ap length (run-lines (roomFor words n)) ∙ lines-length n s (eventsIn s n bytes words)
+
+  ran-words : (lent : List ℕ) → ranBuffer s n bytes lent ≡ overFront (lineNumbers (linesOf n s (eventsIn s n bytes (length lent)))) lent
+  unfolding ranBuffer
+  ran-words lent = ap (λ ls. overFront (lineNumbers ls) lent) (run-lines (roomFor (length lent) n))
 
   -- the same of a recording, for as many events as are left to read
   module _ (left : ℕ) where
@@ -112,26 +132,48 @@ module _ (s : State) (n : ℕ) (bytes : List ℕ) where
         ∙ ap (λ ls. ls ++ lastLine (n + length (ranFrom left s n bytes .events)) (storyFrom left s n bytes .end)) (run-lines left)
         ∙ ap (λ vs. linesOf n s vs ++ lastLine (n + length vs) (storyFrom left s n bytes .end)) (sym same-events)
 
-    pub story-state : (ks : List Task) → accountAfter (from s ks) (storyFrom left s n bytes .events) .state ≡ storyFrom left s n bytes .state
+    pub story-state : (ks : List Task) → accountAfter (account s ks) (storyFrom left s n bytes .events) .state ≡ storyFrom left s n bytes .state
     story-state ks =
-        ap (λ vs. accountAfter (from s ks) vs .state) same-events ∙ run-state left ks ∙ sym (ap (λ t. t .state) (story-run left s n bytes))
+        ap (λ vs. accountAfter (account s ks) vs .state) same-events ∙ run-state left ks ∙ sym (ap (λ t. t .state) (story-run left s n bytes))
 
     pub story-honest : (ks : List Task) → Bytes bytes → Honest (s .board) ks
-        → Honest (storyFrom left s n bytes .state .board) (accountAfter (from s ks) (storyFrom left s n bytes .events) .promises)
+        → Honest (storyFrom left s n bytes .state .board) (accountAfter (account s ks) (storyFrom left s n bytes .events) .promises)
     story-honest ks h o =
         let vs = storyFrom left s n bytes .events in
-        subst (λ t. Honest (t .board) (accountAfter (from s ks) vs .promises)) (story-state ks) (honest-session (from s ks) vs (story-named h) o)
+        subst (λ t. Honest (t .board) (accountAfter (account s ks) vs .promises)) (story-state ks) (honest-session (account s ks) vs (story-named h) o)
 
--- WHAT `session::run` RETURNS. `run.Post` is its promise as it stands in the code; the arguments by their place: the state, the number, the bytes, the buffer.
+-- line by line: the events behind some others are answered in the state that the ledger's account of those leaves
+pub lines-on : (n : ℕ) (s : State) (ks : List Task) (vs ws : List Event)
+    → linesOf n s (vs ++ ws) ≡ linesOf n s vs ++ linesOf (n + length vs) (accountAfter (account s ks) vs .state) ws
+unfolding linesOf accountAfter
+lines-on n s ks [] ws = let e : n ≡ n + 0 = omega arith in ap (λ m. linesOf m s ws) e
+lines-on n s ks (v ∷ vs) ws =
+    let e : suc n + length vs ≡ n + suc (length vs) = omega arith in
+    let t = accountAfter (account (outcome s v .state) (ledgerAfter s ks v)) vs .state in
+    ap (λ ls. lineOf (suc n) (kindOf v) (outcome s v .answer) ∷ ls)
+    (lines-on (suc n) (outcome s v .state) (ledgerAfter s ks v) vs ws ∙ ap (λ m. linesOf (suc n) (outcome s v .state) vs ++ linesOf m t ws) e)
+
+-- WHAT `session::run` GIVES. `run.Post` is its promise as it stands in the code; what it takes by its place: the state, the number, the bytes, the buffer.
+-- The board keeps its promises, those made before the run and those made in it,
 pub code-honest : (κs : _) (a : _) (r : _) (z : _) → run.Post κs a r z → (ks : List Task) → Bytes (a .1 .1 .0 .now) → Honest (a .0 .board) ks
-    → Honest (r .state .board) (accountAfter (from (a .0) ks) (eventsIn (a .0) (a .1 .0) (a .1 .1 .0 .now) (length (a .1 .1 .1 .0 .now))) .promises)
-unfolding ran
-code-honest κs a r z e ks h o =
-    let room = roomFor (length (a .1 .1 .1 .0 .now)) (a .1 .0) in
-    subst (λ x. Honest (x .state .board) (accountAfter (from (a .0) ks) (ranFrom room (a .0) (a .1 .0) (a .1 .1 .0 .now) .events) .promises)) (sym (e .0))
-    (run-honest (a .0) (a .1 .0) (a .1 .1 .0 .now) room ks h o)
+    → let vs = eventsIn (a .0) (a .1 .0) (a .1 .1 .0 .now) (length (a .1 .1 .1 .0 .now)) in Honest (r .state .board) (accountAfter (account (a .0) ks) vs .promises)
+code-honest κs a r z e = ran-honest (a .0) (a .1 .0) (a .1 .1 .0 .now) (length (a .1 .1 .1 .0 .now)) (e .0)
+
+-- and the buffer has the lines of the events at its front, with their answers
+pub code-lines : (κs : _) (a : _) (r : _) (z : _) → run.Post κs a r z
+    → let vs = eventsIn (a .0) (a .1 .0) (a .1 .1 .0 .now) (length (a .1 .1 .1 .0 .now)) in
+    (r .count ≡ length vs) × (z .1 .1 .1 .0 .now ≡ overFront (lineNumbers (linesOf (a .1 .0) (a .0) vs)) (a .1 .1 .1 .0 .now))
+code-lines κs a r z e =
+    (ap (λ x. x .count) (e .0) ∙ ran-count (a .0) (a .1 .0) (a .1 .1 .0 .now) (length (a .1 .1 .1 .0 .now)), e .1 .0 ∙ ran-words (a .0) (a .1 .0) (a .1 .1 .0 .now) (a .1 .1 .1 .0 .now))
 
 -- A WHOLE RECORDING, from the board of zeros
-pub recording-honest : (bytes : List ℕ) → Bytes bytes → Honest (story bytes .state .board) (accountAfter (from firstState []) (story bytes .events) .promises)
+pub recording-honest : (bytes : List ℕ) → Bytes bytes → Honest (story bytes .state .board) (accountAfter (account firstState []) (story bytes .events) .promises)
 unfolding story
 recording-honest bytes h = story-honest firstState 0 bytes _ [] h (honest-none (firstState .board) (inr refl))
+
+-- and AFTER EACH OF ITS EVENTS: vs have been played, ws are to come
+pub recording-after : (bytes : List ℕ) → Bytes bytes → (vs ws : List Event) → story bytes .events ≡ vs ++ ws
+    → let c = accountAfter (account firstState []) vs in Honest (c .state .board) (c .promises)
+unfolding story
+recording-after bytes h vs ws e =
+    honest-from firstState vs (inr refl) (λ v m. story-named firstState 0 bytes _ h v (subst (λ us. v ∈ us) (sym e) (Memᴰ·append-left ws m)))
