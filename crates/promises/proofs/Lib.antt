@@ -4,3 +4,4 @@ pub mod Session
 pub mod Demands
 pub mod Lines
 pub mod Recordings
+pub mod Stands
