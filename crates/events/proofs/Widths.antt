@@ -1,10 +1,10 @@
 -- What is read from bytes has the widths of its record, whatever the bytes are. Assumes nothing.
-use Prim.Native.Nat.{ℕ, zero, suc, _+_, _*_, _^_, _≤_, _<_}
+use Prim.Native.Nat.{ℕ, zero, suc, _+_, _*_, _^_, _<_}
 use mathlib.Core.Path.{_≡_, sym, subst}
 use mathlib.Core.List.{List, [], _∷_}
 use native.Mathlib.Omega.{arith}
 use native.Mathlib.Nat.{pow-suc}
-use lib.ListN.{take, drop, getD}
+use lib.ListN.{take, drop}
 use lib.Seq.{getD-drop}
 use Rattle.events.specs.declared.Event.{Event}
 use Rattle.events.specs.declared.Reading.the-variants.{Got}

@@ -1,5 +1,5 @@
 -- OVER A RECORDING OF BYTES: what is run is the ledger's account of the events read, and the board keeps its promises after each. Assumes nothing.
-use Prim.Native.Nat.{ℕ, zero, suc, _+_, _≤_, _<_}
+use Prim.Native.Nat.{ℕ, zero, suc, _+_}
 use mathlib.Core.Path.{_≡_, refl, sym, ap, _∙_, subst}
 use mathlib.Core.Logic.{_⊎_, inl, inr}
 use mathlib.Core.List.{List, [], _∷_, _++_, Memᴰ·append-left, List·Memᴰ·cases-cons as cases, List·Memᴰ·not-nil as nowhere}
@@ -16,8 +16,8 @@ use Rattle.events.proofs.RoundTrip.{Bytes, Fits, board, submission, instant, na
 use Rattle.events.proofs.Widths.{bytes-drop, read-fits}
 use Rattle.steps.specs.declared.State.{State}
 use Rattle.session.specs.declared.Ran.{Ran}
-use Rattle.session.specs.Recording.{Line, lineOf, firstState, outcome, Story, storyFrom, story, Run, ranFrom, lineNumbers, roomFor, ran, ranBuffer}
-use Rattle.session.proofs.Stories.{lastLine, endsAfter, story-run}
+use Rattle.session.specs.Recording.{Line, lineOf, firstState, outcome, storyFrom, story, ranFrom, lineNumbers, roomFor, ran, ranBuffer}
+use Rattle.session.proofs.Stories.{lastLine, story-run}
 use Rattle.session.proofs.run.Reads as run
 use Rattle.promises.specs.Ledger.{ledgerAfter, Account, accountAfter}
 use Rattle.promises.proofs.Session.{Named, new, submit, clock, withdraw, Honest, honest-session, honest-none, honest-from}
@@ -170,6 +170,13 @@ code-lines κs a r z e =
 pub recording-honest : (bytes : List ℕ) → Bytes bytes → Honest (story bytes .state .board) (accountAfter (account firstState []) (story bytes .events) .promises)
 unfolding story
 recording-honest bytes h = story-honest firstState 0 bytes _ [] h (honest-none (firstState .board) (inr refl))
+
+-- its lines are the answers of its events, and behind them the line of a 15 or a 16
+pub recording-lines : (bytes : List ℕ) → let t = story bytes in t .lines ≡ linesOf 0 firstState (t .events) ++ lastLine (length (t .events)) (t .end)
+unfolding story
+recording-lines bytes =
+    let t = story bytes in
+    story-lines firstState 0 bytes _ ∙ ap (λ m. linesOf 0 firstState (t .events) ++ lastLine m (t .end)) (zero-add (length (t .events)))
 
 -- and AFTER EACH OF ITS EVENTS: vs have been played, ws are to come
 pub recording-after : (bytes : List ℕ) → Bytes bytes → (vs ws : List Event) → story bytes .events ≡ vs ++ ws

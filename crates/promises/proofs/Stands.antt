@@ -1,11 +1,10 @@
 -- HOW A PROMISE ENDS: by its finish, by its owner's withdrawal before its start, by a new board; until then it stands as it was made. Assumes nothing.
 use Prim.Native.Nat.{ℕ, zero, suc, _≤_, _<_}
-use mathlib.Core.Path.{_≡_, refl, sym, ap, _∙_, subst}
+use mathlib.Core.Path.{_≡_, refl, sym, _∙_, subst}
 use mathlib.Core.Logic.{_⊎_, inl, inr}
-use mathlib.Core.Bool.{Bool, true, false, not, _&&_}
-use mathlib.Core.List.{List, [], _∷_, _++_, append-assoc, List·Memᴰ·head as here, List·Memᴰ·tail as there}
-use native.Mathlib.Omega.{arith}
-use lib.Dec.{T, ltb, eqb}
+use mathlib.Core.Bool.{Bool, true, false}
+use mathlib.Core.List.{List, [], _∷_, _++_, List·Memᴰ·head as here, List·Memᴰ·tail as there}
+use lib.Dec.{eqb}
 use borrow.Author.Tests.{ltb-true, eqb-true}
 use Rattle.lists.specs.Lists.{_∈_}
 use Rattle.lists.proofs.Members.{in-keep}
