@@ -153,18 +153,23 @@ lines-on n s ks (v ∷ vs) ws =
     ap (λ ls. lineOf (suc n) (kindOf v) (outcome s v .answer) ∷ ls)
     (lines-on (suc n) (outcome s v .state) (ledgerAfter s ks v) vs ws ∙ ap (λ m. linesOf (suc n) (outcome s v .state) vs ++ linesOf m t ws) e)
 
--- WHAT `session::run` GIVES. `run.Post` is its promise as it stands in the code; what it takes by its place: the state, the number, the bytes, the buffer.
+-- WHAT `session::run` GIVES. `run.Post` is its promise as it stands in the code, over what it takes, returns and leaves; each is named by its place there.
 -- The board keeps its promises, those made before the run and those made in it,
-pub code-honest : (κs : _) (a : _) (r : _) (z : _) → run.Post κs a r z → (ks : List Task) → Bytes (a .1 .1 .0 .now) → Honest (a .0 .board) ks
-    → let vs = eventsIn (a .0) (a .1 .0) (a .1 .1 .0 .now) (length (a .1 .1 .1 .0 .now)) in Honest (r .state .board) (accountAfter (account (a .0) ks) vs .promises)
-code-honest κs a r z e = ran-honest (a .0) (a .1 .0) (a .1 .1 .0 .now) (length (a .1 .1 .1 .0 .now)) (e .0)
+pub code-honest : (κs : _) (a : _) (r : _) (z : _) → run.Post κs a r z
+    → let s = a .0 in let n = a .1 .0 in let bytes = a .1 .1 .0 .now in let lent = a .1 .1 .1 .0 .now in
+    (ks : List Task) → Bytes bytes → Honest (s .board) ks → Honest (r .state .board) (accountAfter (account s ks) (eventsIn s n bytes (length lent)) .promises)
+code-honest κs a r z e = ran-honest (a .0) (a .1 .0) (a .1 .1 .0 .now) _ (e .0)
 
--- and the buffer has the lines of the events at its front, with their answers
+-- and the buffer has at its front a line for each event, with the answer that the account gives
 pub code-lines : (κs : _) (a : _) (r : _) (z : _) → run.Post κs a r z
-    → let vs = eventsIn (a .0) (a .1 .0) (a .1 .1 .0 .now) (length (a .1 .1 .1 .0 .now)) in
-    (r .count ≡ length vs) × (z .1 .1 .1 .0 .now ≡ overFront (lineNumbers (linesOf (a .1 .0) (a .0) vs)) (a .1 .1 .1 .0 .now))
+    → let s = a .0 in let n = a .1 .0 in let bytes = a .1 .1 .0 .now in let lent = a .1 .1 .1 .0 .now in let after = z .1 .1 .1 .0 .now in
+    let vs = eventsIn s n bytes (length lent) in
+    (r .count ≡ length vs) × (after ≡ overFront (lineNumbers (linesOf n s vs)) lent)
 code-lines κs a r z e =
-    (ap (λ x. x .count) (e .0) ∙ ran-count (a .0) (a .1 .0) (a .1 .1 .0 .now) (length (a .1 .1 .1 .0 .now)), e .1 .0 ∙ ran-words (a .0) (a .1 .0) (a .1 .1 .0 .now) (a .1 .1 .1 .0 .now))
+    let s = a .0 in
+    let n = a .1 .0 in
+    let bytes = a .1 .1 .0 .now in
+    (ap (λ x. x .count) (e .0) ∙ ran-count s n bytes _, e .1 .0 ∙ ran-words s n bytes _)
 
 -- A WHOLE RECORDING, from the board of zeros
 pub recording-honest : (bytes : List ℕ) → Bytes bytes → Honest (story bytes .state .board) (accountAfter (account firstState []) (story bytes .events) .promises)
