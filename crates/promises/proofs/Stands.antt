@@ -5,6 +5,7 @@ use mathlib.Core.Logic.{_⊎_, inl, inr}
 use mathlib.Core.Bool.{Bool, true, false}
 use mathlib.Core.List.{List, [], _∷_, _++_, List·Memᴰ·head as here, List·Memᴰ·tail as there}
 use lib.Dec.{eqb}
+use lib.ListN.{length}
 use borrow.Author.Tests.{ltb-true, eqb-true}
 use Rattle.lists.specs.Lists.{_∈_}
 use Rattle.lists.proofs.Members.{in-keep}
@@ -23,8 +24,10 @@ use Rattle.events.specs.Records.{submissionOf}
 use Rattle.events.proofs.RoundTrip.{Bytes}
 use Rattle.steps.specs.declared.State.{State}
 use Rattle.session.specs.Recording.{firstState, outcome, story}
+use Rattle.session.proofs.run.Reads as run
 use Rattle.promises.specs.Ledger.{entered, struck, ledgerAfter, Account, accountAfter}
-use Rattle.promises.proofs.Recordings.{account, recording-after}
+use Rattle.promises.proofs.Session.{Honest}
+use Rattle.promises.proofs.Recordings.{account, eventsIn, code-honest, recording-after}
 
 -- the events that end a promise: any new board, refused or not, and a withdrawal of its id before its start that is not refused
 pub data Ends (b : Board) (k : Task) : Event → Type 0 where
@@ -35,6 +38,10 @@ pub data Ends (b : Board) (k : Task) : Event → Type 0 where
 pub data EndsIn (k : Task) : State → List Event → Type 0 where
   now : {s : State} {v : Event} {vs : List Event} → Ends (s .board) k v → EndsIn k s (v ∷ vs)
   later : {s : State} {v : Event} {vs : List Event} → EndsIn k (outcome s v .state) vs → EndsIn k s (v ∷ vs)
+
+-- it has finished, or is a live task as it was promised
+abbrev pub Stands : Board → Task → Type 0
+Stands b k = (finish k ≤ b .now) ⊎ (stamped (b .now) k ∈ liveOf b)
 
 -- A PLACE ANSWERED IS A PROMISE
 pub promise-made : (s : State) (ks : List Task) (n : ℕ) (q : Ask) {c t f : ℕ} → submitted (s .board) n (submissionOf q) .answer ≡ Placed c t f
@@ -85,25 +92,30 @@ promise-after c (v ∷ vs) k m = go (λ x. promise-after _ vs k x) (promise-stay
         on (inl y) = inl y
         on (inr y) = inr (later y)
 
+-- so a board that is honest by the ledger after them has it
+module _ (c : Account) (vs : List Event) (k : Task) (m : k ∈ c .promises) (b : Board) (o : Honest b (accountAfter c vs .promises)) where
+  kept : EndsIn k (c .state) vs ⊎ Stands b k
+  kept = go (promise-after c vs k m)
+    where
+      go : (k ∈ accountAfter c vs .promises) ⊎ EndsIn k (c .state) vs → EndsIn k (c .state) vs ⊎ Stands b k
+      go (inl x) = inr (o .stands k x)
+      go (inr x) = inl x
+
+-- A PROMISE THROUGH `session::run`, by its promise as it stands in the code: an event that was run ends it, or it stands on the board that is returned
+pub code-kept : (κs : _) (a : _) (r : _) (z : _) → run.Post κs a r z
+    → let s = a .0 in let n = a .1 .0 in let bytes = a .1 .1 .0 .now in let lent = a .1 .1 .1 .0 .now in
+    (ks : List Task) → Bytes bytes → Honest (s .board) ks → (k : Task) → k ∈ ks → EndsIn k s (eventsIn s n bytes (length lent)) ⊎ Stands (r .state .board) k
+code-kept κs a r z e ks h o k m = kept (account (a .0) ks) _ k m (r .state .board) (code-honest κs a r z e ks h o)
+
 account-on : (c : Account) (us vs : List Event) → accountAfter c (us ++ vs) ≡ accountAfter (accountAfter c us) vs
 unfolding accountAfter
 account-on c [] vs = refl
 account-on c (u ∷ us) vs = account-on _ us vs
 
--- A PROMISE OF A RECORDING OF BYTES. It was made by the events us; vs come after them: one of vs ends it, or it has finished, or it is a live task as it was promised.
-pub promise-kept : (bytes : List ℕ) → Bytes bytes → (us vs ws : List Event) → story bytes .events ≡ (us ++ vs) ++ ws
-    → (k : Task) → k ∈ accountAfter (account firstState []) us .promises
-    → let b = accountAfter (account firstState []) (us ++ vs) .state .board in
-    EndsIn k (accountAfter (account firstState []) us .state) vs ⊎ (finish k ≤ b .now) ⊎ (stamped (b .now) k ∈ liveOf b)
-promise-kept bytes h us vs ws e k m = go (promise-after (accountAfter (account firstState []) us) vs k m)
-  where
-    first : Account
-    first = account firstState []
-
-    b : Board
-    b = accountAfter first (us ++ vs) .state .board
-
-    go : (k ∈ accountAfter (accountAfter first us) vs .promises) ⊎ EndsIn k (accountAfter first us .state) vs
-        → EndsIn k (accountAfter first us .state) vs ⊎ (finish k ≤ b .now) ⊎ (stamped (b .now) k ∈ liveOf b)
-    go (inr x) = inl x
-    go (inl x) = inr (recording-after bytes h (us ++ vs) ws e .stands k (subst (λ c. k ∈ c .promises) (sym (account-on first us vs)) x))
+-- A PROMISE OF A RECORDING OF BYTES, from the board of zeros: the events us have made it, and vs come after them; one of vs ends it, or it stands
+pub promise-kept : (bytes : List ℕ) → Bytes bytes → (us vs ws : List Event) → story bytes .events ≡ (us ++ vs) ++ ws → (k : Task)
+    → let c = accountAfter (account firstState []) us in k ∈ c .promises → EndsIn k (c .state) vs ⊎ Stands (accountAfter c vs .state .board) k
+promise-kept bytes h us vs ws e k m =
+    let c = accountAfter (account firstState []) us in
+    kept c vs k m (accountAfter c vs .state .board)
+    (subst (λ x. Honest (x .state .board) (x .promises)) (account-on (account firstState []) us vs) (recording-after bytes h (us ++ vs) ws e))
