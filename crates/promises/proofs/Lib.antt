@@ -3,3 +3,5 @@ pub mod Unique
 pub mod Session
 pub mod Demands
 pub mod Lines
+pub mod Recordings
+pub mod Stands

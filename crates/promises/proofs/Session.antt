@@ -341,8 +341,10 @@ honest-session c (v ∷ vs) f o =
     honest-session (record { state = outcome (c .state) v .state; promises = ledgerAfter (c .state) (c .promises) v }) vs (λ w m. f w (there m))
     (honest-event (c .state) (c .promises) v (f v (here refl)) o)
 
+-- nothing is promised yet
+pub honest-none : (b : Board) → SoundBoard b ⊎ (b ≡ zeroBoard) → Honest b []
+honest-none b x = record { standing = x; apart = empty; due = λ k m. absurd (nowhere m); stands = λ k m. absurd (nowhere m) }
+
 pub honest-from : (s : State) (vs : List Event) → SoundBoard (s .board) ⊎ (s .board ≡ zeroBoard) → ((v : Event) → v ∈ vs → Named v)
     → let c = accountAfter (record { state = s; promises = [] }) vs in Honest (c .state .board) (c .promises)
-honest-from s vs x f =
-    honest-session (record { state = s; promises = [] }) vs f
-    (record { standing = x; apart = empty; due = λ k m. absurd (nowhere m); stands = λ k m. absurd (nowhere m) })
+honest-from s vs x f = honest-session (record { state = s; promises = [] }) vs f (honest-none (s .board) x)
