@@ -40,7 +40,7 @@ judged-strange End h = absurd (let w : _≡_ {A = ℕ} 0 1 = cc in omega arith)
 judged-strange (Got v n) h = absurd (let w : _≡_ {A = ℕ} 0 1 = cc in omega arith)
 judged-strange (CutShort k) h = absurd (let w : _≡_ {A = ℕ} 0 1 = cc in omega arith)
 
-stops-known : (r : Reader) (run : Run) (rest : List ℕ) (taken : ℕ) (x : Reading) → ((k : ℕ) → x ≡ Unknown k → ⊥) → stopsBefore r run rest taken x ≡ holdsOn r run rest taken
+pub stops-known : (r : Reader) (run : Run) (rest : List ℕ) (taken : ℕ) (x : Reading) → ((k : ℕ) → x ≡ Unknown k → ⊥) → stopsBefore r run rest taken x ≡ holdsOn r run rest taken
 unfolding stopsBefore
 stops-known r run rest taken End f = refl
 stops-known r run rest taken (Got v n) f = refl

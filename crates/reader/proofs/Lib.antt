@@ -2,3 +2,4 @@ pub mod Held
 pub mod Ends
 pub mod Hearing
 pub mod Going
+pub mod Cuts

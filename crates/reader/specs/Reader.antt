@@ -119,6 +119,15 @@ endIn (Got v n) = AtEnd
 endIn (CutShort k) = In15 k
 endIn (Unknown k) = In16 k
 
--- THE INPUT HAS ENDED
+-- HOW THE RECORDING HAS ENDED, where that is all the input
 unfoldable pub endOf : Reader → Ending
 endOf r = cond (open? (r .end)) (endIn (readFrom (heldOf r))) (r .end)
+
+-- "After 15 .. it prints that line": the line that an end has behind the lines before it; a 16 has had its own
+unfoldable pub lastLines : ℕ → Ending → List Line
+lastLines n NotYet = []
+lastLines n AtEnd = []
+lastLines n (In15 k) = lineOf (suc n) k (bare 15) ∷ []
+lastLines n (In16 k) = []
+lastLines n AtLast = []
+lastLines n PastLast = []

@@ -2,8 +2,12 @@
 use Prim.Native.Nat.{ℕ, zero, suc, _+_, _-_, _≤_, _<_}
 use mathlib.Core.Path.{_≡_, refl, sym, ap, _∙_, subst}
 use mathlib.Core.List.{List, [], _∷_, _++_}
+use mathlib.Core.Bool.{cond}
+use mathlib.Core.Logic.{_⊎_, inl, inr}
 use native.Mathlib.Omega.{arith}
-use lib.ListN.{length, drop}
+use borrow.Author.Tests.{ne-eqb}
+use lib.Dec.{eqb}
+use lib.ListN.{length, drop, length-drop}
 use lib.Seq.{drop-drop, drop-append-le}
 use Rattle.steps.specs.declared.State.{State}
 use Rattle.events.specs.declared.Event.{Event}
@@ -12,7 +16,9 @@ use Rattle.events.specs.declared.Reading.the-variants.{End, Got, CutShort, Unkn
 use Rattle.events.specs.Records.{kindOf, readFrom}
 use Rattle.events.proofs.Calls.{taken-there}
 use Rattle.events.proofs.Pieces.{got-longer}
-use Rattle.session.specs.Recording.{Line, lineOf, outcome, Story, storyFrom, Run, still, ranFrom}
+use Rattle.board.specs.Answers.{bare}
+use Rattle.session.specs.declared.Ending.the-variants.{AtEnd, In15, In16, AtLast, PastLast}
+use Rattle.session.specs.Recording.{Line, lineOf, outcome, Story, endsIn, storyFrom, Run, still, ranFrom}
 use Rattle.session.proofs.Running.{ran-got, ran-none}
 
 -- lines and events before a story
@@ -103,3 +109,64 @@ run-stops (suc room) b n bytes h v size q = go (λ c m ws f x. run-stops room c 
         let fewer : suc (length (next .lines)) < suc room = subst (λ (y : Run). length (y .lines) < suc room) got h in
         below (outcome b w .state) (suc n) (drop m bytes) (omega arith)
         (ap readFrom (drop-drop (next .taken) m bytes) ∙ ap (λ (y : Run). readFrom (drop (y .taken) bytes)) (sym got) ∙ q)
+
+-- a run takes bytes that are there
+pub run-inside : (room : ℕ) (b : State) (n : ℕ) (bytes : List ℕ) → ranFrom room b n bytes .taken ≤ length bytes
+unfolding ranFrom
+run-inside zero b n bytes = omega arith
+run-inside (suc room) b n bytes = go (λ c m ws. run-inside room c m ws) (readFrom bytes) refl
+  where
+    go : ((c : State) (m : ℕ) (ws : List ℕ) → ranFrom room c m ws .taken ≤ length ws) → (r : Reading) → readFrom bytes ≡ r → ranFrom (suc room) b n bytes .taken ≤ length bytes
+    go next End e = rw (e, ranFrom) (omega arith)
+    go next (CutShort k) e = rw (e, ranFrom) (omega arith)
+    go next (Unknown k) e = rw (e, ranFrom) (omega arith)
+    go next (Got v size) e =
+        subst (λ (x : Run). x .taken ≤ length bytes) (sym (ran-got room b n bytes v size e))
+        (omega (arith, next (outcome b v .state) (suc n) (drop size bytes), length-drop size bytes, taken-there bytes v size e .1))
+
+-- what a run has taken begins with a whole record, and gives a line
+pub record Began (bytes : List ℕ) (run : Run) : Type 0 where
+  pub event : Event
+  pub size : ℕ
+  pub reads : readFrom bytes ≡ Got event size
+  pub within : size ≤ run .taken
+  pub line : 0 < length (run .lines)
+
+pub run-began : (room : ℕ) (b : State) (n : ℕ) (bytes : List ℕ) → (0 < ranFrom room b n bytes .taken) ⊎ (0 < length (ranFrom room b n bytes .lines)) → Began bytes (ranFrom room b n bytes)
+unfolding ranFrom
+run-began zero b n bytes (inl h) = absurd (omega arith)
+run-began zero b n bytes (inr h) = absurd (omega arith)
+run-began (suc room) b n bytes h = go (readFrom bytes) refl
+  where
+    none : ranFrom (suc room) b n bytes ≡ still b → Began bytes (ranFrom (suc room) b n bytes)
+    none e = absurd (pick h)
+      where
+        pick : (0 < ranFrom (suc room) b n bytes .taken) ⊎ (0 < length (ranFrom (suc room) b n bytes .lines)) → ⊥
+        pick (inl x) = let y : 0 < 0 = subst (λ (z : Run). 0 < z .taken) e x in omega arith
+        pick (inr x) = let y : 0 < 0 = subst (λ (z : Run). 0 < length (z .lines)) e x in omega arith
+
+    go : (r : Reading) → readFrom bytes ≡ r → Began bytes (ranFrom (suc room) b n bytes)
+    go End e = none (rw (e, ranFrom))
+    go (CutShort k) e = none (rw (e, ranFrom))
+    go (Unknown k) e = none (rw (e, ranFrom))
+    go (Got v size) e =
+        subst (Began bytes) (sym (ran-got room b n bytes v size e)) record { event = v; size = size; reads = e; within = omega arith; line = omega arith }
+
+-- where no event may come any more
+pub story-none : (b : State) (n : ℕ) (bytes : List ℕ) → storyFrom 0 b n bytes ≡ endsIn [] b (cond (eqb (length bytes) 0) AtLast PastLast)
+unfolding storyFrom
+story-none b n [] = refl
+story-none b n (x ∷ bytes) = rw (ne-eqb (suc (length bytes)) 0 (λ h. omega arith))
+
+-- what no whole record begins with
+pub story-cut : (left : ℕ) (b : State) (n : ℕ) (bytes : List ℕ) (k : ℕ) → readFrom bytes ≡ CutShort k → storyFrom (suc left) b n bytes ≡ endsIn (lineOf (suc n) k (bare 15) ∷ []) b (In15 k)
+unfolding storyFrom
+story-cut left b n bytes k e = rw (e, storyFrom)
+
+pub story-strange : (left : ℕ) (b : State) (n : ℕ) (bytes : List ℕ) (k : ℕ) → readFrom bytes ≡ Unknown k → storyFrom (suc left) b n bytes ≡ endsIn (lineOf (suc n) k (bare 16) ∷ []) b (In16 k)
+unfolding storyFrom
+story-strange left b n bytes k e = rw (e, storyFrom)
+
+pub story-end : (left : ℕ) (b : State) (n : ℕ) (bytes : List ℕ) → readFrom bytes ≡ End → storyFrom (suc left) b n bytes ≡ endsIn [] b AtEnd
+unfolding storyFrom
+story-end left b n bytes e = rw (e, storyFrom)
