@@ -2,6 +2,7 @@
 use Prim.Native.Nat.{ℕ, suc}
 use mathlib.Core.Bool.{cond}
 use mathlib.Core.List.{List, [], _∷_, _++_}
+use mathlib.Core.Option.{Option, none, some}
 use lib.Dec.{leb, ltb, eqb}
 use lib.ListN.{length}
 use Rattle.lists.specs.Lists.{overFront}
@@ -22,6 +23,13 @@ kindOf (NewBoard W H) = 1
 kindOf (Submit n a) = 2
 kindOf (Clock i) = 3
 kindOf (Withdraw n) = 4
+
+-- the id that an event names
+unfoldable pub idOf : Event → Option ℕ
+idOf (NewBoard W H) = none
+idOf (Submit n a) = some (a .id)
+idOf (Clock i) = none
+idOf (Withdraw n) = some n
 
 -- "Body": W 2, H 2; planner 1, id 4, w 2, h 2, e 4, d 4; instant 4; id 4
 unfoldable pub bodyOf : Event → List ℕ

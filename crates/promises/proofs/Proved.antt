@@ -19,7 +19,7 @@ use Rattle.board.specs.Answers.{told}
 use Rattle.board.specs.Calls.{orRefused, freshBoard, created, withTask, taken, answered, submitted, boardAt, clocked, withdrawn, remaining, opened, openedBuffer, listed, listedBuffer, counted}
 use Rattle.board.specs.Refusals.{refusal, refusedCreate, refusedSubmit, refusedInstant, refusedWithdraw, refusedOpenings, refusedHorizon}
 use Rattle.events.specs.Records.{bytesOf, numberOf, kindOf, bodyOf, recordOf, wholeOr15, readFrom, written, writtenBuffer, toldRead, toldWritten}
-use Rattle.session.specs.Recording.{firstState, lineOf, outcome, storyFrom, story}
+use Rattle.session.specs.Recording.{firstState, lineOf, stopLine, outcome, storyFrom, story}
 use Rattle.promises.specs.Cases.{numbers, afterEvent, play, same, sameAll, passes, at, only}
 use Rattle.promises.specs.Edges.{refusedList, edgeSet, filled}
 use Rattle.promises.specs.ProvingSet.{played, tableWith, withClocks, firstSix, seven, listing, provingSet, twoRuns, waitingAhead, tellingSet, listingEvents, listingLines, recording}
@@ -46,7 +46,7 @@ unfolding refusal refusedCreate refusedSubmit refusedInstant refusedWithdraw ref
 open-refusals = tt
 
 open-records : Unit {0}
-unfolding bytesOf numberOf kindOf bodyOf recordOf wholeOr15 readFrom written writtenBuffer toldRead toldWritten lineOf outcome storyFrom story
+unfolding bytesOf numberOf kindOf bodyOf recordOf wholeOr15 readFrom written writtenBuffer toldRead toldWritten lineOf stopLine idOf outcome storyFrom story
 open-records = tt
 
 open-cases : Unit {0}

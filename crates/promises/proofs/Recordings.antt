@@ -29,7 +29,7 @@ account s ks = record { state = s; promises = ks }
 -- the lines of some events from a state on, of which n are done
 unfoldable pub linesOf : ℕ → State → List Event → List Line
 linesOf n s [] = []
-linesOf n s (v ∷ vs) = lineOf (suc n) (kindOf v) (outcome s v .answer) ∷ linesOf (suc n) (outcome s v .state) vs
+linesOf n s (v ∷ vs) = lineOf (suc n) v (outcome s v .answer) ∷ linesOf (suc n) (outcome s v .state) vs
 
 lines-length : (n : ℕ) (s : State) (vs : List Event) → length (linesOf n s vs) ≡ length vs
 unfolding linesOf
@@ -47,7 +47,7 @@ fits-named (name {n} p) = withdraw n
 data Played : State → ℕ → List ℕ → List Line → List Event → State → Type 0 where
   none : {s : State} {n : ℕ} {bytes : List ℕ} → Played s n bytes [] [] s
   more : {s t : State} {n size : ℕ} {bytes : List ℕ} {ls : List Line} {v : Event} {vs : List Event} → readFrom bytes ≡ Got v size
-      → Played (outcome s v .state) (suc n) (drop size bytes) ls vs t → Played s n bytes (lineOf (suc n) (kindOf v) (outcome s v .answer) ∷ ls) (v ∷ vs) t
+      → Played (outcome s v .state) (suc n) (drop size bytes) ls vs t → Played s n bytes (lineOf (suc n) v (outcome s v .answer) ∷ ls) (v ∷ vs) t
 
 played : (room : ℕ) (s : State) (n : ℕ) (bytes : List ℕ) → let r = ranFrom room s n bytes in Played s n bytes (r .lines) (r .events) (r .state)
 unfolding ranFrom
@@ -64,7 +64,7 @@ played (suc room) s n bytes = go (λ t m ws. played room t m ws) (readFrom bytes
 played-lines : {s t : State} {n : ℕ} {bytes : List ℕ} {ls : List Line} {vs : List Event} → Played s n bytes ls vs t → ls ≡ linesOf n s vs
 unfolding linesOf
 played-lines none = refl
-played-lines (more {s} {n} {v} e p) = ap (λ ls. lineOf (suc n) (kindOf v) (outcome s v .answer) ∷ ls) (played-lines p)
+played-lines (more {s} {n} {v} e p) = ap (λ ls. lineOf (suc n) v (outcome s v .answer) ∷ ls) (played-lines p)
 
 played-state : {s t : State} {n : ℕ} {bytes : List ℕ} {ls : List Line} {vs : List Event} → Played s n bytes ls vs t → (ks : List Task) → accountAfter (account s ks) vs .state ≡ t
 unfolding accountAfter
@@ -150,7 +150,7 @@ lines-on n s ks [] ws = let e : n ≡ n + 0 = omega arith in ap (λ m. linesOf m
 lines-on n s ks (v ∷ vs) ws =
     let e : suc n + length vs ≡ n + suc (length vs) = omega arith in
     let t = accountAfter (account (outcome s v .state) (ledgerAfter s ks v)) vs .state in
-    ap (λ ls. lineOf (suc n) (kindOf v) (outcome s v .answer) ∷ ls)
+    ap (λ ls. lineOf (suc n) v (outcome s v .answer) ∷ ls)
     (lines-on (suc n) (outcome s v .state) (ledgerAfter s ks v) vs ws ∙ ap (λ m. linesOf (suc n) (outcome s v .state) vs ++ linesOf m t ws) e)
 
 -- WHAT `session::run` GIVES. `run.Post` is its promise as it stands in the code, over what it takes, returns and leaves; each is named by its place there.

@@ -20,7 +20,7 @@ use Rattle.events.specs.Records.{readFrom}
 use Rattle.events.proofs.Pieces.{Begun, begun-few, got-shorter, unknown-longer}
 use Rattle.session.specs.declared.Ending.{Ending}
 use Rattle.session.specs.declared.Ending.the-variants.{NotYet, AtEnd, In15, In16, AtLast, PastLast}
-use Rattle.session.specs.Recording.{Line, lineOf, Story, endsIn, storyFrom, story, Run, ranFrom, roomFor, mostEvents, firstState}
+use Rattle.session.specs.Recording.{Line, stopLine, Story, endsIn, storyFrom, story, Run, ranFrom, roomFor, mostEvents, firstState}
 use Rattle.session.proofs.Recorded.{told, run-story, run-few, run-stops, run-inside, Began, run-began, story-none, story-cut, story-strange, story-end}
 use Rattle.reader.specs.declared.Reader.{Reader}
 use Rattle.reader.specs.Reader.{firstReader, heldOf, Heard, after, holdsOn, stopsBefore, heardOver, goesOnWith, passedOver, open?, laterEnd, heard, endIn, endOf, lastLines}
@@ -204,7 +204,7 @@ module _ (r : Reader) (s : Sane r) (o : open? (r .end) ≡ true) (p more : List 
     )
       where
         line : List Line
-        line = lineOf (suc n) k (bare 16) ∷ []
+        line = stopLine (suc n) k 16 ∷ []
 
         then : Reader
         then = after r run (r .held) 0 (In16 k)
@@ -404,7 +404,7 @@ closed-tells r s = go (open? (r .end)) refl
         nothing = unfold lastLines endIn in refl
     ends o (CutShort k) e = story-cut (mostEvents - r .number - 1) (r .state) (r .number) (heldOf r) k e ∙ its-line
       where
-        its-line : endsIn (lineOf (suc (r .number)) k (bare 15) ∷ []) (r .state) (In15 k) ≡ endsIn (lastLines (r .number) (endIn (CutShort k))) (r .state) (endIn (CutShort k))
+        its-line : endsIn (stopLine (suc (r .number)) k 15 ∷ []) (r .state) (In15 k) ≡ endsIn (lastLines (r .number) (endIn (CutShort k))) (r .state) (endIn (CutShort k))
         its-line = unfold lastLines endIn in refl
     ends o (Got v n) e = absurd (s .begun .not-whole v n e)
     ends o (Unknown k) e = absurd (s .begun .no-stranger k e)

@@ -1,5 +1,5 @@
 -- A piece is gone over by itself, or behind the held bytes: what `reader::go_on` and `reader::feed` answer. Assumes nothing.
-use Prim.Native.Nat.{ℕ, _+_, _-_, _≤_, min}
+use Prim.Native.Nat.{ℕ, _+_, _-_, _*_, _≤_, min}
 use mathlib.Core.Path.{_≡_, refl, sym, ap, ap₂, _∙_, subst}
 use mathlib.Core.Bool.{true, false, cond}
 use mathlib.Core.List.{List, [], _++_, append-assoc}
@@ -14,6 +14,7 @@ use Rattle.reader.specs.declared.Reader.{Reader}
 use Rattle.reader.specs.declared.Fed.{Fed}
 use Rattle.reader.specs.Reader.{heldOf, heardOver, goesOnWith, heard, open?, laterEnd, passedOver, asFed, fed, fedBuffer}
 use Rattle.reader.specs.Told.{Told}
+use Rattle.reader.proofs.Bounds.{heard-bounded}
 use Rattle.reader.proofs.Ends.{heard-open, heard-closed}
 
 module _ (r : Reader) (piece answers : List ℕ) where
@@ -52,6 +53,13 @@ module _ (r : Reader) (piece answers : List ℕ) where
         joined : overFront ls lent ++ drop (words - 0) answers ≡ overFront ls answers
         joined = append-assoc ls (drop (length ls) lent) (drop (words - 0) answers)
             ∙ ap (λ x. ls ++ x) (sym (drop-append-le (length ls) lent (drop (words - 0) answers) fits) ∙ ap (drop (length ls)) (take-append-drop (words - 0) answers))
+
+  -- the bounds that follow
+  pub bounds : {f : Fed} → f ≡ fed r piece (length answers) → (f .count * 6 ≤ length answers) × (f .taken ≤ length piece)
+  unfolding fed
+  bounds e =
+      let b = heard-bounded r piece (length answers) in
+      (omega (arith, ap (λ x. x .count) e, b .fits), omega (arith, ap (λ x. x .taken) e, b .inside))
 
   -- the recording goes on
   pub feeds-open : open? (r .end) ≡ true → {f : Fed} {after : List ℕ} → Told (goesOnWith r piece (length answers)) f answers after

@@ -20,7 +20,7 @@ use Rattle.events.proofs.Pieces.{Begun, begun-few}
 use Rattle.session.specs.declared.Ending.{Ending}
 use Rattle.session.specs.declared.Ending.the-variants.{NotYet, In16, AtLast}
 use Rattle.session.specs.declared.Ran.{Ran}
-use Rattle.session.specs.Recording.{Line, lineOf, Run, ranFrom, roomFor, lineNumbers, mostEvents, ran, ranBuffer}
+use Rattle.session.specs.Recording.{Line, stopLine, Run, ranFrom, roomFor, lineNumbers, mostEvents, ran, ranBuffer}
 use Rattle.session.proofs.Running.{words-append, words-length}
 use Rattle.session.proofs.Recorded.{run-few, run-stops}
 use Rattle.reader.specs.declared.Reader.{Reader}
@@ -110,7 +110,7 @@ module _ (r : Reader) (kept : ℕ) (bytes lent : List ℕ) (x : Ran) (e : x ≡ 
         → answers ≡ sets before (x .count * 6) ((number + 1) ∷ kind ∷ 16 ∷ 0 ∷ 0 ∷ 0 ∷ [])
         → Told (heardOver r kept bytes (length lent))
         (record { reader = record { state = x .state; number = number; held = r .held; size = 0; end = In16 kind }; taken = taken; count = count }) lent answers
-    unfolding heardOver ranBuffer stopsBefore lineNumbers lineOf
+    unfolding heardOver ranBuffer stopsBefore lineNumbers stopLine
     hear-strange {kind} u {before} {answers} b {number} n t c a = rw (more, sym (ap readFrom rest-is) ∙ u) record {
       answer = λ i. record {
         reader = record { state = follows i; number = place i; held = r .held; size = 0; end = In16 kind };
@@ -125,7 +125,7 @@ module _ (r : Reader) (kept : ℕ) (bytes lent : List ℕ) (x : Ran) (e : x ≡ 
     }
       where
         line : Line
-        line = lineOf (suc (r .number + length (run .lines))) kind (bare 16)
+        line = stopLine (suc (r .number + length (run .lines))) kind 16
 
         place : number ≡ r .number + length (run .lines)
         place = n ∙ ap (λ y. r .number + y) counted

@@ -3,3 +3,4 @@ pub mod Ends
 pub mod Hearing
 pub mod Going
 pub mod Cuts
+pub mod Bounds

@@ -12,7 +12,7 @@ use Rattle.events.specs.declared.Reading.the-variants.{End, Got, CutShort, Unkn
 use Rattle.events.specs.Records.{readFrom}
 use Rattle.session.specs.declared.Ending.{Ending}
 use Rattle.session.specs.declared.Ending.the-variants.{NotYet, AtEnd, In15, In16, AtLast, PastLast}
-use Rattle.session.specs.Recording.{Line, lineOf, Run, ranFrom, roomFor, lineNumbers, mostEvents, firstState}
+use Rattle.session.specs.Recording.{Line, stopLine, Run, ranFrom, roomFor, lineNumbers, mostEvents, firstState}
 use Rattle.reader.specs.declared.Reader.{Reader}
 use Rattle.reader.specs.declared.Fed.{Fed}
 
@@ -46,7 +46,7 @@ stopsBefore r run rest taken End = holdsOn r run rest taken
 stopsBefore r run rest taken (Got v n) = holdsOn r run rest taken
 stopsBefore r run rest taken (CutShort k) = holdsOn r run rest taken
 stopsBefore r run rest taken (Unknown k) = record {
-  lines = run .lines ++ (lineOf (suc (r .number + length (run .lines))) k (bare 16) ∷ []);
+  lines = run .lines ++ (stopLine (suc (r .number + length (run .lines))) k 16 ∷ []);
   events = run .events;
   reader = after r run (r .held) 0 (In16 k);
   taken = taken;
@@ -64,6 +64,10 @@ heardOver r kept bytes words =
       reader = after r run (r .held) (cond (eqb (run .taken) 0) (r .size) 0) (cond (ltb (r .number + length (run .lines)) mostEvents) NotYet AtLast);
       taken = run .taken - kept;
     }
+
+-- the bytes that a run goes over: a record that has begun goes first, by itself
+unfoldable pub sourceOf : Reader → List ℕ → List ℕ
+sourceOf r piece = cond (eqb (length (heldOf r)) 0) piece (take 18 (heldOf r ++ piece))
 
 -- what a piece tells: a record that has begun goes first, by itself: no record is longer than 18 bytes
 unfoldable pub goesOnWith : Reader → List ℕ → ℕ → Heard
@@ -127,7 +131,7 @@ endOf r = cond (open? (r .end)) (endIn (readFrom (heldOf r))) (r .end)
 unfoldable pub lastLines : ℕ → Ending → List Line
 lastLines n NotYet = []
 lastLines n AtEnd = []
-lastLines n (In15 k) = lineOf (suc n) k (bare 15) ∷ []
+lastLines n (In15 k) = stopLine (suc n) k 15 ∷ []
 lastLines n (In16 k) = []
 lastLines n AtLast = []
 lastLines n PastLast = []

@@ -2,13 +2,13 @@
 ghost use mathlib.Core.Path.{_≡_};
 ghost use mathlib.Core.Bool.{cond};
 ghost use mathlib.Core.List.{_++_};
-ghost use Prim.Native.Nat.{_+_, _-_, _≤_, min};
+ghost use Prim.Native.Nat.{_+_, _-_, _*_, _≤_, min};
 ghost use lib.Dec.{ltb, eqb};
 ghost use lib.ListN.{length, take, drop};
 ghost use Rattle.lists.specs.Lists.{overFront};
 ghost use Rattle.session.specs.declared.Ending.the-variants.{NotYet, AtLast, PastLast};
 ghost use Rattle.session.specs.Recording.{mostEvents};
-ghost use Rattle.reader.specs.Reader.{firstReader, open?, laterEnd, heardOver, goesOnWith, passedOver, asFed, fed, fedBuffer, endIn, endOf};
+ghost use Rattle.reader.specs.Reader.{firstReader, heldOf, open?, laterEnd, heardOver, goesOnWith, passedOver, asFed, fed, fedBuffer, endIn, endOf};
 ghost use Rattle.reader.specs.Told.{judged, Told};
 use events::Reading;
 use session::Ending;
@@ -169,9 +169,9 @@ fn hear(r: Reader, kept: usize, bytes: &[u8], answers: &mut [u32]) -> Fed
 }
 
 // The held bytes and those of the piece that may belong to their record.
-struct Joined {
-    bytes: [u8; 18],
-    size: usize,
+pub struct Joined {
+    pub bytes: [u8; 18],
+    pub size: usize,
 }
 
 fn join(held: [u8; 18], kept: usize, piece: &[u8]) -> Joined
@@ -194,6 +194,15 @@ fn least(a: usize, b: usize) -> usize
         return a;
     }
     b
+}
+
+// The bytes that a piece is read by where a record has begun.
+pub fn window(r: Reader, piece: &[u8]) -> Joined
+    ensures { λ j. ⌜ (j .size ≤ 18) × (take (j .size) (j .bytes) ≡ take 18 (heldOf r ++ now (piece .entry))) ⌝ }
+{
+    let held = r.held;
+    let kept = least(r.size, 18);
+    join(held, kept, piece)
 }
 
 fn go_on(r: Reader, piece: &[u8], answers: &mut [u32]) -> Fed
@@ -270,6 +279,7 @@ fn later(end: Ending, piece: &[u8]) -> Ending
 pub fn feed(r: Reader, piece: &[u8], answers: &mut [u32]) -> Fed
     ensures { λ f. ⌜ f ≡ fed r (now (piece .entry)) (length (now (answers .entry))) ⌝ }
     ensures { λ f. ⌜ now (answers .exit) ≡ fedBuffer r (now (piece .entry)) (now (answers .entry)) ⌝ }
+    ensures { λ f. ⌜ (f .count * 6 ≤ length (now (answers .entry))) × (f .taken ≤ length (now (piece .entry))) ⌝ }
 {
     let end = r.end;
     if is_open(end) {

@@ -18,7 +18,7 @@ use Rattle.events.proofs.Calls.{taken-there}
 use Rattle.events.proofs.Pieces.{got-longer}
 use Rattle.board.specs.Answers.{bare}
 use Rattle.session.specs.declared.Ending.the-variants.{AtEnd, In15, In16, AtLast, PastLast}
-use Rattle.session.specs.Recording.{Line, lineOf, outcome, Story, endsIn, storyFrom, Run, still, ranFrom}
+use Rattle.session.specs.Recording.{Line, lineOf, stopLine, outcome, Story, endsIn, storyFrom, Run, still, ranFrom}
 use Rattle.session.proofs.Running.{ran-got, ran-none}
 
 -- lines and events before a story
@@ -33,7 +33,7 @@ goesOn left n bytes more r =
 pub story-got : (left : ℕ) (b : State) (n : ℕ) (bytes : List ℕ) (v : Event) (size : ℕ) → readFrom bytes ≡ Got v size
     → let next : Story = storyFrom left (outcome b v .state) (suc n) (drop size bytes) in
     storyFrom (suc left) b n bytes
-    ≡ record { lines = lineOf (suc n) (kindOf v) (outcome b v .answer) ∷ next .lines; events = v ∷ next .events; state = next .state; end = next .end }
+    ≡ record { lines = lineOf (suc n) v (outcome b v .answer) ∷ next .lines; events = v ∷ next .events; state = next .state; end = next .end }
 unfolding storyFrom
 story-got left b n bytes v size e = rw (e, storyFrom)
 
@@ -64,7 +64,7 @@ run-story (suc left) (suc room) b n bytes more h = go (λ c m ws. run-story left
         let k : ℕ = length (r .lines) in
         let x : left - k ≡ suc left - suc k = omega arith in
         let y : suc n + k ≡ n + suc k = omega arith in
-        let line : Line = lineOf (suc n) (kindOf v) (outcome b v .answer) in
+        let line : Line = lineOf (suc n) v (outcome b v .answer) in
         let rest : ℕ → ℕ → List ℕ → Story = λ m j ws. told (line ∷ r .lines) (v ∷ r .events) (storyFrom m (r .state) j (ws ++ more)) in
         story-got left b n (bytes ++ more) v size (got-longer bytes more v size e)
         ∙ ap (λ ws. told (line ∷ []) (v ∷ []) (storyFrom left (outcome b v .state) (suc n) ws)) (drop-append-le size bytes more (taken-there bytes v size e .1))
@@ -159,11 +159,11 @@ story-none b n [] = refl
 story-none b n (x ∷ bytes) = rw (ne-eqb (suc (length bytes)) 0 (λ h. omega arith))
 
 -- what no whole record begins with
-pub story-cut : (left : ℕ) (b : State) (n : ℕ) (bytes : List ℕ) (k : ℕ) → readFrom bytes ≡ CutShort k → storyFrom (suc left) b n bytes ≡ endsIn (lineOf (suc n) k (bare 15) ∷ []) b (In15 k)
+pub story-cut : (left : ℕ) (b : State) (n : ℕ) (bytes : List ℕ) (k : ℕ) → readFrom bytes ≡ CutShort k → storyFrom (suc left) b n bytes ≡ endsIn (stopLine (suc n) k 15 ∷ []) b (In15 k)
 unfolding storyFrom
 story-cut left b n bytes k e = rw (e, storyFrom)
 
-pub story-strange : (left : ℕ) (b : State) (n : ℕ) (bytes : List ℕ) (k : ℕ) → readFrom bytes ≡ Unknown k → storyFrom (suc left) b n bytes ≡ endsIn (lineOf (suc n) k (bare 16) ∷ []) b (In16 k)
+pub story-strange : (left : ℕ) (b : State) (n : ℕ) (bytes : List ℕ) (k : ℕ) → readFrom bytes ≡ Unknown k → storyFrom (suc left) b n bytes ≡ endsIn (stopLine (suc n) k 16 ∷ []) b (In16 k)
 unfolding storyFrom
 story-strange left b n bytes k e = rw (e, storyFrom)
 

@@ -38,7 +38,7 @@ use Rattle.session.specs.Standing.{Took}
 pub ran-got : (m : ℕ) (b : State) (n : ℕ) (bytes : List ℕ) (v : Event) (size : ℕ) → readFrom bytes ≡ Got v size
     → let later : Run = ranFrom m (outcome b v .state) (suc n) (drop size bytes) in
     ranFrom (suc m) b n bytes
-    ≡ record { lines = lineOf (suc n) (kindOf v) (outcome b v .answer) ∷ later .lines; events = v ∷ later .events; state = later .state; taken = size + later .taken }
+    ≡ record { lines = lineOf (suc n) v (outcome b v .answer) ∷ later .lines; events = v ∷ later .events; state = later .state; taken = size + later .taken }
 unfolding ranFrom
 ran-got m b n bytes v size e = rw (e, ranFrom)
 
@@ -185,7 +185,7 @@ module _ {b : State} {number most : ℕ} {bytes lent answers : List ℕ} {tasks 
     out = outcome now (w .event)
 
     abbrev line : Line
-    line = lineOf (suc (number + n)) (kindOf (w .event)) (out .answer)
+    line = lineOf (suc (number + n)) (w .event) (out .answer)
 
     abbrev later : Run
     later = ranFrom (most - (n + 1)) (stateOf (out .state .board .tasks) (e .brief)) (number + (n + 1)) (drop (at + w .size) bytes)

@@ -11,7 +11,7 @@ use Rattle.events.specs.declared.Reading.the-variants.{End, Got, CutShort, Unkn
 use Rattle.events.specs.Records.{kindOf, readFrom}
 use Rattle.session.specs.declared.Ending.{Ending}
 use Rattle.session.specs.declared.Ending.the-variants.{NotYet, AtEnd, In15, In16, AtLast, PastLast}
-use Rattle.session.specs.Recording.{Line, lineOf, outcome, Story, endsIn, storyFrom, Run, still, ranFrom}
+use Rattle.session.specs.Recording.{Line, lineOf, stopLine, outcome, Story, endsIn, storyFrom, Run, still, ranFrom}
 use Rattle.session.proofs.Running.{ran-got}
 use Rattle.session.proofs.Recorded.{told, story-got}
 
@@ -19,8 +19,8 @@ use Rattle.session.proofs.Recorded.{told, story-got}
 unfoldable pub lastLine : ℕ → Ending → List Line
 lastLine n NotYet = []
 lastLine n AtEnd = []
-lastLine n (In15 k) = lineOf (suc n) k (bare 15) ∷ []
-lastLine n (In16 k) = lineOf (suc n) k (bare 16) ∷ []
+lastLine n (In15 k) = stopLine (suc n) k 15 ∷ []
+lastLine n (In16 k) = stopLine (suc n) k 16 ∷ []
 lastLine n AtLast = []
 lastLine n PastLast = []
 
@@ -57,7 +57,7 @@ story-run (suc left) s n bytes = go (λ t m ws. story-run left t m ws) (readFrom
     go next (Got v size) e =
         let t : Story = storyFrom left (outcome s v .state) (suc n) (drop size bytes) in
         let r : Run = ranFrom left (outcome s v .state) (suc n) (drop size bytes) in
-        let line : Line = lineOf (suc n) (kindOf v) (outcome s v .answer) in
+        let line : Line = lineOf (suc n) v (outcome s v .answer) in
         let more : suc n + length (r .events) ≡ n + suc (length (r .events)) = omega arith in
         story-got left s n bytes v size e
         ∙ ap (told (line ∷ []) (v ∷ [])) (next (outcome s v .state) (suc n) (drop size bytes))

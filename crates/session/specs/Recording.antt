@@ -1,12 +1,13 @@
 -- The run of a recording: how a list of bytes goes, event by event, and what a run over some of them does. Assumes nothing.
 use Prim.Native.Nat.{ℕ, zero, suc, _+_, _-_, _/_, min}
 use mathlib.Core.List.{List, [], _∷_}
+use mathlib.Core.Option.{Option, none}
 use lib.ListN.{length, drop}
 use Rattle.lists.specs.Lists.{overFront}
-use Rattle.board.specs.Answers.{Told, bare}
+use Rattle.board.specs.Answers.{Told}
 use Rattle.events.specs.declared.Event.{Event}
 use Rattle.events.specs.declared.Reading.the-variants.{End, Got, CutShort, Unknown}
-use Rattle.events.specs.Records.{kindOf, readFrom}
+use Rattle.events.specs.Records.{kindOf, idOf, readFrom}
 use Rattle.session.specs.declared.Ending.{Ending}
 use Rattle.session.specs.declared.Ending.the-variants.{AtEnd, In15, In16, AtLast, PastLast}
 use Rattle.session.specs.declared.Ran.{Ran}
@@ -14,7 +15,7 @@ use Rattle.steps.specs.declared.State.{State}
 pub use Rattle.steps.specs.Outcomes.{firstState, Outcome}
 unfoldable pub use Rattle.steps.specs.Outcomes.{outcome}
 
--- "event number from 1, kind, answer, column, start, finish"
+-- "event number from 1, kind, answer, column, start, finish"; and the id that its event names, for those who read the lines
 pub record Line : Type 0 where
   pub event : ℕ
   pub kind : ℕ
@@ -22,11 +23,16 @@ pub record Line : Type 0 where
   pub column : ℕ
   pub start : ℕ
   pub finish : ℕ
+  pub id : Option ℕ
 
 -- the line of an event
-unfoldable pub lineOf : ℕ → ℕ → Told → Line
-lineOf n kind a =
-    record { event = n; kind = kind; answer = a .number; column = a .column; start = a .start; finish = a .finish }
+unfoldable pub lineOf : ℕ → Event → Told → Line
+lineOf n v a =
+    record { event = n; kind = kindOf v; answer = a .number; column = a .column; start = a .start; finish = a .finish; id = idOf v }
+
+-- the line of a 15 or 16, "kind as the byte read, zeros"
+unfoldable pub stopLine : ℕ → ℕ → ℕ → Line
+stopLine n kind number = record { event = n; kind = kind; answer = number; column = 0; start = 0; finish = 0; id = none }
 
 -- how a recording goes: its lines, its events, the state that follows the last of them, and how it ends
 pub record Story : Type 0 where
@@ -50,13 +56,13 @@ storyFrom (suc left) s n bytes =
       | Got v size ↦
           let next = storyFrom left (outcome s v .state) (suc n) (drop size bytes) in
           record {
-            lines = lineOf (suc n) (kindOf v) (outcome s v .answer) ∷ next .lines;
+            lines = lineOf (suc n) v (outcome s v .answer) ∷ next .lines;
             events = v ∷ next .events;
             state = next .state;
             end = next .end;
           }
-      | CutShort k ↦ endsIn (lineOf (suc n) k (bare 15) ∷ []) s (In15 k)
-      | Unknown k ↦ endsIn (lineOf (suc n) k (bare 16) ∷ []) s (In16 k)
+      | CutShort k ↦ endsIn (stopLine (suc n) k 15 ∷ []) s (In15 k)
+      | Unknown k ↦ endsIn (stopLine (suc n) k 16 ∷ []) s (In16 k)
     ]
 
 -- "it also stops, without a line, after 1,000,000,000 events"
@@ -87,7 +93,7 @@ ranFrom (suc room) s n bytes =
       | Got v size ↦
           let next = ranFrom room (outcome s v .state) (suc n) (drop size bytes) in
           record {
-            lines = lineOf (suc n) (kindOf v) (outcome s v .answer) ∷ next .lines;
+            lines = lineOf (suc n) v (outcome s v .answer) ∷ next .lines;
             events = v ∷ next .events;
             state = next .state;
             taken = size + next .taken;

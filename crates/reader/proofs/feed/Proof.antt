@@ -1,7 +1,7 @@
 -- `reader::feed` meets its contract. Assumes nothing.
 use mathlib.Core.Path.{sym, ap, _∙_}
 use Rattle.reader.specs.Reader.{passedOver, asFed}
-use Rattle.reader.proofs.Going.{feeds-open, feeds-closed}
+use Rattle.reader.proofs.Going.{bounds, feeds-open, feeds-closed}
 use borrow.Author.Needs.{needs}
 use Rattle.reader.proofs.feed.Statement.{statement}
 use Rattle.reader.proofs.feed.Tie as tie
@@ -19,7 +19,8 @@ returns : tie.Need-returns
 returns c =
     let t = c .before .before .before .before in
     let a = t .before .before .before .before .args in
-    feeds-open (a .r) (a .piece .now) (a .answers .now) (sym (t .before .is-open .ensures) ∙ t .if1 .taken) (c .before .before .go-on .ensures)
+    let x = feeds-open (a .r) (a .piece .now) (a .answers .now) (sym (t .before .is-open .ensures) ∙ t .if1 .taken) (c .before .before .go-on .ensures) in
+    (x .0, (x .1, bounds (a .r) (a .piece .now) (a .answers .now) (x .0)))
 
 later-requires : tie.Need-later-requires
 later-requires c κs = search needs
@@ -31,8 +32,9 @@ returns-2 : tie.Need-returns-2
 returns-2 c =
     let l = c .before .before in
     let a = l .before .before .before .before .args in
-    feeds-closed (a .r) (a .piece .now) (a .answers .now) (sym (l .before .is-open .ensures) ∙ l .if1 .left)
-    (c .pass .ensures ∙ ap (λ e. asFed (passedOver (a .r) (a .piece .now) e)) (c .before .later .ensures))
+    let x = feeds-closed (a .r) (a .piece .now) (a .answers .now) (sym (l .before .is-open .ensures) ∙ l .if1 .left)
+    (c .pass .ensures ∙ ap (λ e. asFed (passedOver (a .r) (a .piece .now) e)) (c .before .later .ensures)) in
+    (x .0, (x .1, bounds (a .r) (a .piece .now) (a .answers .now) (x .0)))
 
 pub feed-spec : {M : Type 1} → statement M
 feed-spec =
