@@ -1,0 +1,96 @@
+-- The machine that `record` runs, fed piece by piece: what each call does. Assumes nothing.
+use Prim.Native.Nat.{ℕ, _+_, _-_}
+use mathlib.Core.Bool.{Bool, true, false, cond, _&&_}
+use mathlib.Core.List.{List, [], _∷_}
+use lib.Dec.{leb, ltb}
+use lib.ListN.{length, take}
+use lib.Seq.{sets}
+use Rattle.text.specs.Output.{Output, nothing, before}
+use Rattle.recorder.specs.declared.Recorder.{Recorder}
+use Rattle.recorder.specs.declared.Fed.{Fed}
+use Rattle.recorder.specs.declared.Closed.{Closed}
+use Rattle.recorder.specs.Recorder.{Made, linesOn, longText, refused, lineMade, recordLines}
+
+-- where it begins: line 1, no record, no byte held
+abbrev pub begun : Recorder
+begun = record { line = 1; records = 0; held = 0; more = true }
+
+-- a counter of 64 bits stays at its largest number
+unfoldable pub added : ℕ → ℕ → ℕ
+added n k = cond (leb (n + k) 18446744073709551615) (n + k) 18446744073709551615
+
+-- what a feeding does: where the machine then stands, its held bytes, how many bytes it took, what it wrote
+pub record Feeding : Type 0 where
+  pub recorder : Recorder
+  pub held : List ℕ
+  pub taken : ℕ
+  pub output : Output
+
+-- the end of a line: the first n of the held bytes are the line
+unfoldable pub lineFed : Recorder → List ℕ → ℕ → ℕ → Feeding
+lineFed r held n taken =
+    let m = lineMade (r .line) (r .records) (take n held) in
+    record {
+      recorder = record { line = added (r .line) 1; records = added (r .records) (m .records); held = 0; more = m .more };
+      held = held;
+      taken = taken;
+      output = m .output;
+    }
+
+-- bytes without a line feed are put behind the held ones, where there is room; a line feed may stand behind them
+unfoldable pub partFed : Recorder → List ℕ → List ℕ → Bool → Feeding
+partFed r held part ends =
+    cond (ltb (length part) (65536 - r .held))
+    (cond ends (lineFed r (sets held (r .held) part) (r .held + length part) (length part + 1))
+    (record {
+      recorder = record { line = r .line; records = r .records; held = r .held + length part; more = r .more };
+      held = sets held (r .held) part;
+      taken = length part;
+      output = nothing;
+    }))
+    (record {
+      recorder = record { line = r .line; records = r .records; held = r .held; more = false };
+      held = held;
+      taken = length part;
+      output = refused (longText (r .line) (r .records)) .output;
+    })
+
+-- one feeding after another
+abbrev pub after : Feeding → Feeding → Feeding
+after f g = record { recorder = g .recorder; held = g .held; taken = f .taken + g .taken; output = before (f .output) (g .output) }
+
+-- whether it goes on: no line was wrong, and the buffer has room for a record (18 bytes)
+abbrev pub goesOn : ℕ → Feeding → Bool
+goesOn room f = f .recorder .more && leb (length (f .output .out) + 18) room
+
+-- the parts of a piece between its line feeds, one after the other: behind each but the last stands a line feed
+unfoldable pub partsFed : ℕ → Feeding → List (List ℕ) → Feeding
+partsFed room f [] = f
+partsFed room f (p ∷ []) = cond (goesOn room f) (after f (partFed (f .recorder) (f .held) p false)) f
+partsFed room f (p ∷ q ∷ ps) = cond (goesOn room f) (partsFed room (after f (partFed (f .recorder) (f .held) p true)) (q ∷ ps)) f
+
+-- "after a wrong line it takes all and writes nothing"
+abbrev pub takingAll : ℕ → Feeding → Feeding
+takingAll n f = record { recorder = f .recorder; held = f .held; taken = cond (f .recorder .more) (f .taken) n; output = f .output }
+
+-- where nothing is taken yet
+abbrev pub unfed : Recorder → List ℕ → Feeding
+unfed r held = record { recorder = r; held = held; taken = 0; output = nothing }
+
+-- A PIECE is fed to a machine that holds these bytes, with so much room for records
+unfoldable pub feeding : Recorder → List ℕ → List ℕ → ℕ → Feeding
+feeding r held piece room = takingAll (length piece) (partsFed room (unfed r held) (linesOn [] piece))
+
+abbrev pub fedOf : Feeding → Fed
+fedOf f = record { recorder = f .recorder; taken = f .taken; used = length (f .output .out); said = length (f .output .err) }
+
+-- THE END of the input ends the last line
+unfoldable pub closing : Recorder → List ℕ → Output
+closing r held = cond (r .more) (lineMade (r .line) (r .records) (take (r .held) held) .output) nothing
+
+abbrev pub closedOf : Output → Closed
+closedOf o = record { used = length (o .out); said = length (o .err) }
+
+-- what a machine that stands so has still to write where these bytes are all that comes
+unfoldable pub rest : Recorder → List ℕ → List ℕ → Output
+rest r held bytes = cond (r .more) (recordLines (r .line) (r .records) (linesOn (take (r .held) held) bytes)) nothing
