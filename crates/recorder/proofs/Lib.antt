@@ -1,1 +1,5 @@
 pub mod Showing
+pub mod Reading
+pub mod Recording
+pub mod Feeding
+pub mod Going

@@ -1,15 +1,30 @@
 -- The machine that `record` runs, fed piece by piece: what each call does. Assumes nothing.
-use Prim.Native.Nat.{ℕ, _+_, _-_}
+use Prim.Native.Nat.{ℕ, _+_, _-_, _≤_}
+use mathlib.Core.Path.{_≡_}
 use mathlib.Core.Bool.{Bool, true, false, cond, _&&_}
 use mathlib.Core.List.{List, [], _∷_}
 use lib.Dec.{leb, ltb}
-use lib.ListN.{length, take}
+use lib.ListN.{length, take, getD}
 use lib.Seq.{sets}
+use Rattle.tokens.specs.declared.Word.{Word}
+use Rattle.tokens.specs.Tokens.{words}
+use Rattle.tokens.specs.Walks.{part}
 use Rattle.text.specs.Output.{Output, nothing, before}
 use Rattle.recorder.specs.declared.Recorder.{Recorder}
 use Rattle.recorder.specs.declared.Fed.{Fed}
+use Rattle.recorder.specs.declared.Step.{Step}
 use Rattle.recorder.specs.declared.Closed.{Closed}
 use Rattle.recorder.specs.Recorder.{Made, linesOn, longText, refused, lineMade, recordLines}
+
+-- a word of a text, counted from 0, as code finds it: its place
+pub record Found (text : List ℕ) (n : ℕ) (r : Word) : Type 0 where
+  pub ordered : r .from ≤ r .to
+  pub within : r .to ≤ length text
+  pub word : part (r .from) (r .to) text ≡ getD (words text) n []
+
+-- what a line made, as code hands it on
+abbrev pub stepOf : Made → Step
+stepOf m = record { used = length (m .output .out); said = length (m .output .err); records = m .records; more = m .more }
 
 -- where it begins: line 1, no record, no byte held
 abbrev pub begun : Recorder
@@ -37,23 +52,32 @@ lineFed r held n taken =
       output = m .output;
     }
 
--- bytes without a line feed are put behind the held ones, where there is room; a line feed may stand behind them
-unfoldable pub partFed : Recorder → List ℕ → List ℕ → Bool → Feeding
-partFed r held part ends =
-    cond (ltb (length part) (65536 - r .held))
-    (cond ends (lineFed r (sets held (r .held) part) (r .held + length part) (length part + 1))
-    (record {
+-- bytes behind the held ones, with no line feed behind them
+abbrev pub keptFed : Recorder → List ℕ → List ℕ → Feeding
+keptFed r held part =
+    record {
       recorder = record { line = r .line; records = r .records; held = r .held + length part; more = r .more };
       held = sets held (r .held) part;
       taken = length part;
       output = nothing;
-    }))
-    (record {
+    }
+
+-- more bytes than a line has
+abbrev pub longFed : Recorder → List ℕ → List ℕ → Feeding
+longFed r held part =
+    record {
       recorder = record { line = r .line; records = r .records; held = r .held; more = false };
       held = held;
       taken = length part;
       output = refused (longText (r .line) (r .records)) .output;
-    })
+    }
+
+-- a part of a line behind the held bytes; `ends` where a line feed stands behind it
+unfoldable pub partFed : Recorder → List ℕ → List ℕ → Bool → Feeding
+partFed r held part ends =
+    cond (ltb (length part) (65536 - r .held))
+    (cond ends (lineFed r (sets held (r .held) part) (r .held + length part) (length part + 1)) (keptFed r held part))
+    (longFed r held part)
 
 -- one feeding after another
 abbrev pub after : Feeding → Feeding → Feeding
@@ -61,7 +85,7 @@ after f g = record { recorder = g .recorder; held = g .held; taken = f .taken + 
 
 -- whether it goes on: no line was wrong, and the buffer has room for a record (18 bytes)
 abbrev pub goesOn : ℕ → Feeding → Bool
-goesOn room f = f .recorder .more && leb (length (f .output .out) + 18) room
+goesOn room f = f .recorder .more && leb 18 (room - length (f .output .out))
 
 -- the parts of a piece between its line feeds, one after the other: behind each but the last stands a line feed
 unfoldable pub partsFed : ℕ → Feeding → List (List ℕ) → Feeding
