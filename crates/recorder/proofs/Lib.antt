@@ -3,3 +3,4 @@ pub mod Reading
 pub mod Recording
 pub mod Feeding
 pub mod Going
+pub mod Joined
