@@ -106,50 +106,51 @@ module _ {r : Recorder} {held part : List ℕ} where
 
 -- THE PROMISE OF A PART: what is returned, and what the three buffers then are
 abbrev pub Does : Feeding → ℕ → List ℕ → List ℕ → Fed → List ℕ → List ℕ → List ℕ → Type 0
-Does f used out err q held′ out′ err′ = (q ≡ fedOf f) × ((held′ ≡ f .held) × ((out′ ≡ sets out used (f .output .out)) × (err′ ≡ overFront (f .output .err) err)))
+Does f used out err q held′ out′ err′ = (q ≡ fedOf f) × ((held′ ≡ f .held) × ((out′ ≡ sets out used (f .output .out)) × ((err′ ≡ overFront (f .output .err) err) × (q .said ≤ 512))))
 
 module _ (r : Recorder) (held part : List ℕ) (used : ℕ) (out err : List ℕ) where
   pub does-long : (ends : Bool) {said : ℕ} {err′ : List ℕ} → 65536 - r .held ≤ length part
-      → said ≡ length (longText (r .line) (r .records)) → err′ ≡ overFront (longText (r .line) (r .records)) err
+      → said ≡ length (longText (r .line) (r .records)) → (err′ ≡ overFront (longText (r .line) (r .records)) err) × (said ≤ 512)
       → Does (partFed r held part ends) used out err (record { recorder = longFed r held part .recorder; taken = length part; used = 1; said = said }) held (set out used 0) err′
-  does-long ends h s e = rw (part-long r held part ends h) (rw s refl, (refl, (refl, e)))
+  does-long ends h s e = rw (part-long r held part ends h) (rw s refl, (refl, (refl, (e .0, e .1))))
 
   pub does-line : {ends : Bool} {end line records : ℕ} {s : Step} {held′ out′ err′ : List ℕ} → ends ≡ true → length part < 65536 - r .held
       → end ≡ r .held + length part → held′ ≡ sets held (r .held) part
       → s ≡ stepOf (lineMade (r .line) (r .records) (take (end - 0) held′)) → out′ ≡ sets out used (lineMade (r .line) (r .records) (take (end - 0) held′) .output .out)
-      → err′ ≡ overFront (lineMade (r .line) (r .records) (take (end - 0) held′) .output .err) err → line ≡ added (r .line) 1 → records ≡ added (r .records) (s .records)
+      → err′ ≡ overFront (lineMade (r .line) (r .records) (take (end - 0) held′) .output .err) err → s .said ≤ 512 → line ≡ added (r .line) 1 → records ≡ added (r .records) (s .records)
       → Does (partFed r held part ends) used out err
       (record { recorder = record { line = line; records = records; held = 0; more = s .more }; taken = length part + 1; used = s .used; said = s .said }) held′ out′ err′
   unfolding lineFed
-  does-line {end = end} {s = s} {held′ = held′} t h n b e o p l c =
+  does-line {end = end} {s = s} {held′ = held′} t h n b e o p w l c =
       let k : end - 0 ≡ r .held + length part = omega arith in
       let now : take (end - 0) held′ ≡ take (r .held + length part) (sets held (r .held) part) = ap (λ i. take i held′) k ∙ ap (take (r .held + length part)) b in
-      rw (t, part-line r held part h) (rw (l, c, e, now) refl, (b, (rw now at o, rw now at p)))
+      rw (t, part-line r held part h) (rw (l, c, e, now) refl, (b, (rw now at o, (rw now at p, w))))
 
   pub does-kept : {ends : Bool} {end : ℕ} {held′ : List ℕ} → ends ≡ false → length part < 65536 - r .held → end ≡ r .held + length part → held′ ≡ sets held (r .held) part
       → Does (partFed r held part ends) used out err
       (record { recorder = record { line = r .line; records = r .records; held = end; more = r .more }; taken = length part; used = 0; said = 0 }) held′ out err
-  does-kept t h n b = rw (t, part-kept r held part h) (rw n refl, (b, (refl, refl)))
+  does-kept t h n b = rw (t, part-kept r held part h) (rw n refl, (b, (refl, (refl, omega arith))))
 
 -- THE PROMISE OF THE END
 abbrev pub Closes : Recorder → List ℕ → List ℕ → List ℕ → Closed → List ℕ → List ℕ → Type 0
-Closes r held out err q out′ err′ = (q ≡ closedOf (closing r held)) × ((out′ ≡ overFront (closing r held .out) out) × (err′ ≡ overFront (closing r held .err) err))
+Closes r held out err q out′ err′ = (q ≡ closedOf (closing r held)) × ((out′ ≡ overFront (closing r held .out) out) × ((err′ ≡ overFront (closing r held .err) err) × ((q .used ≤ 32) × (q .said ≤ 512))))
 
 module _ (r : Recorder) (held out err : List ℕ) where
   pub closed : r .more ≡ false → Closes r held out err (record { used = 0; said = 0 }) out err
   unfolding closing
-  closed e = rw e (refl, (refl, refl))
+  closed e = rw e (refl, (refl, (refl, (omega arith, omega arith))))
 
   pub closes : {s : Step} {out′ err′ : List ℕ} → r .more ≡ true → 18 ≤ length out → s ≡ stepOf (lineMade (r .line) (r .records) (take (r .held - 0) held))
       → out′ ≡ sets out 0 (lineMade (r .line) (r .records) (take (r .held - 0) held) .output .out)
-      → err′ ≡ overFront (lineMade (r .line) (r .records) (take (r .held - 0) held) .output .err) err
+      → err′ ≡ overFront (lineMade (r .line) (r .records) (take (r .held - 0) held) .output .err) err → s .said ≤ 512
       → Closes r held out err (record { used = s .used; said = s .said }) out′ err′
   unfolding closing
-  closes {s} {out′} {err′} m h e o p =
+  closes {s} {out′} {err′} m h e o p w =
       let k : r .held - 0 ≡ r .held = omega arith in
       let text = lineMade (r .line) (r .records) (take (r .held) held) .output .out in
       let front : sets out 0 text ≡ overFront text out = sets-front out text (omega (arith, line-short (r .line) (r .records) (take (r .held) held))) in
-      rw m (rw (e, k) refl, (rw k at o ∙ front, rw k at p))
+      let few : s .used ≤ 18 = rw e (line-short (r .line) (r .records) (take (r .held - 0) held)) in
+      rw m (rw (e, k) refl, (rw k at o ∙ front, (rw k at p, (omega arith, w))))
 
 -- THE PARTS OF A TEXT: up to the first line feed, and what is behind it
 abbrev first : List ℕ → ℕ

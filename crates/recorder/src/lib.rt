@@ -199,6 +199,7 @@ fn put_wrong(
 ) -> usize
     ensures { λ r. ⌜ r ≡ length (wrongText line records kind word (now (bytes .entry))) ⌝ }
     ensures { λ r. ⌜ now (err .exit) ≡ overFront (wrongText line records kind word (now (bytes .entry))) (now (err .entry)) ⌝ }
+    ensures { λ r. ⌜ r ≤ 512 ⌝ }
 {
     let line_at = put(err, 0, b"record: line ");
     let line_end = text::put_wide(err, line_at, line);
@@ -215,6 +216,7 @@ fn put_wrong(
 fn put_too_long(err: &mut [u8; 512], line: u64, records: u64) -> usize
     ensures { λ r. ⌜ r ≡ length (longText line records) ⌝ }
     ensures { λ r. ⌜ now (err .exit) ≡ overFront (longText line records) (now (err .entry)) ⌝ }
+    ensures { λ r. ⌜ r ≤ 512 ⌝ }
 {
     let line_at = put(err, 0, b"record: line ");
     let line_end = text::put_wide(err, line_at, line);
@@ -273,6 +275,7 @@ fn complain(
 ) -> usize
     ensures { λ r. ⌜ r ≡ length (wrongText line records kind word (getD (words (bare (now (text .entry)))) (word - 1) [])) ⌝ }
     ensures { λ r. ⌜ now (err .exit) ≡ overFront (wrongText line records kind word (getD (words (bare (now (text .entry)))) (word - 1) [])) (now (err .entry)) ⌝ }
+    ensures { λ r. ⌜ r ≤ 512 ⌝ }
 {
     let end = bare_end(text);
     let bare = &text[0..end];
@@ -332,6 +335,7 @@ fn put_line(
     ensures { λ r. ⌜ r ≡ stepOf (lineMade line records (now (text .entry))) ⌝ }
     ensures { λ _. ⌜ now (out .exit) ≡ sets (now (out .entry)) used (lineMade line records (now (text .entry)) .output .out) ⌝ }
     ensures { λ _. ⌜ now (err .exit) ≡ overFront (lineMade line records (now (text .entry)) .output .err) (now (err .entry)) ⌝ }
+    ensures { λ r. ⌜ r .said ≤ 512 ⌝ }
 {
     let from = mark_end(line, text);
     let bare = &text[from..];
@@ -383,6 +387,7 @@ fn feed_part(
     ensures { λ _. ⌜ now (held .exit) ≡ partFed r (now (held .entry)) (now (part .entry)) ends .held ⌝ }
     ensures { λ _. ⌜ now (out .exit) ≡ sets (now (out .entry)) used (partFed r (now (held .entry)) (now (part .entry)) ends .output .out) ⌝ }
     ensures { λ _. ⌜ now (err .exit) ≡ overFront (partFed r (now (held .entry)) (now (part .entry)) ends .output .err) (now (err .entry)) ⌝ }
+    ensures { λ q. ⌜ q .said ≤ 512 ⌝ }
 {
     let from = r.held as usize;
     let size = part.len();
@@ -460,6 +465,7 @@ pub fn feed(
     ensures { λ _. ⌜ now (held .exit) ≡ feeding recorder (now (held .entry)) (now (piece .entry)) (length (now (out .entry))) .held ⌝ }
     ensures { λ _. ⌜ now (out .exit) ≡ overFront (feeding recorder (now (held .entry)) (now (piece .entry)) (length (now (out .entry))) .output .out) (now (out .entry)) ⌝ }
     ensures { λ _. ⌜ now (err .exit) ≡ overFront (feeding recorder (now (held .entry)) (now (piece .entry)) (length (now (out .entry))) .output .err) (now (err .entry)) ⌝ }
+    ensures { λ r. ⌜ (r .taken ≤ length (now (piece .entry))) × (r .used ≤ length (now (out .entry))) × (r .said ≤ 512) ⌝ }
 {
     let mut r = recorder;
     let mut at: usize = 0;
@@ -492,6 +498,7 @@ pub fn close(
     ensures { λ r. ⌜ r ≡ closedOf (closing recorder (now (held .entry))) ⌝ }
     ensures { λ _. ⌜ now (out .exit) ≡ overFront (closing recorder (now (held .entry)) .out) (now (out .entry)) ⌝ }
     ensures { λ _. ⌜ now (err .exit) ≡ overFront (closing recorder (now (held .entry)) .err) (now (err .entry)) ⌝ }
+    ensures { λ r. ⌜ (r .used ≤ 32) × (r .said ≤ 512) ⌝ }
 {
     if recorder.more {
         let n = recorder.held as usize;

@@ -25,7 +25,7 @@ returns c =
     let p = c .put-line .ensures in
     let t = c .before .before .before .before .before .before in
     let a = t .before .args in
-    closes (a .recorder) (a .held .now) (a .out .now) (a .err .now) (t .if1 .taken) (omega arith) (p .0) (p .1 .0) (p .1 .1)
+    closes (a .recorder) (a .held .now) (a .out .now) (a .err .now) (t .if1 .taken) (omega arith) (p .0) (p .1 .0) (p .1 .1 .0) (p .1 .1 .1)
 
 returns-2 : tie.Need-returns-2
 returns-2 c = closed _ _ _ _ (c .if1 .left)

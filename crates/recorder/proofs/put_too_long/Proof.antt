@@ -1,4 +1,5 @@
 -- `recorder::put_too_long` meets its contract: four texts one behind the other. Assumes nothing.
+use Prim.Native.Nat.{_≤_}
 use native.Mathlib.Omega.{arith}
 use Rattle.text.proofs.Spelling.{put-both}
 use Rattle.recorder.specs.Recorder.{longText}
@@ -33,7 +34,9 @@ returns c =
     let number = end .before .before .before in
     let line = number .before .before in
     let all = put-both (line .put .ensures .0) (put-both (number .put-wide .ensures .0) (put-both (end .put2 .ensures .0) (count .0))) in
-    at-front _ all (omega (arith, line .put .ensures .1, number .put-wide .ensures .1, end .put2 .ensures .1, count .1))
+    let most : c .put-count .result ≤ 200 = omega (arith, line .put .ensures .1, number .put-wide .ensures .1, end .put2 .ensures .1, count .1) in
+    let front = at-front _ all (omega arith) in
+    (front .0, (front .1, omega arith))
 
 pub put-too-long-spec : {M : Type 1} → statement M
 put-too-long-spec =
