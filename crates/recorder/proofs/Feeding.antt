@@ -12,13 +12,13 @@ use lib.ListN.{length, take, drop, set, length-append, length-drop}
 use lib.Seq.{sets, sets-eq, length-sets, drop-drop, length-take-le, take-all}
 use Rattle.lists.specs.Lists.{indexOf, overFront}
 use Rattle.lists.proofs.Stores.{sets-append}
+use Rattle.text.specs.Digits.{Put}
 use Rattle.text.specs.Output.{Output, nothing, before}
 use Rattle.tokens.specs.declared.Sort.the-variants.{Newline}
 use Rattle.tokens.specs.Tokens.{stopsAt}
 use Rattle.tokens.specs.Walks.{part}
 use Rattle.recorder.specs.declared.Recorder.{Recorder}
 use Rattle.recorder.specs.declared.Fed.{Fed}
-use Rattle.recorder.specs.declared.Closed.{Closed}
 use Rattle.recorder.specs.declared.Step.{Step}
 use Rattle.recorder.specs.Recorder.{linesOn, longText, lineMade}
 use Rattle.recorder.specs.Machine.{stepOf, added, Feeding, lineFed, keptFed, longFed, partFed, after, goesOn, partsFed, takingAll, unfed, feeding, fedOf, closing, closedOf}
@@ -132,25 +132,38 @@ module _ (r : Recorder) (held part : List ℕ) (used : ℕ) (out err : List ℕ)
   does-kept t h n b = rw (t, part-kept r held part h) (rw n refl, (b, (refl, (refl, omega arith))))
 
 -- THE PROMISE OF THE END
-abbrev pub Closes : Recorder → List ℕ → List ℕ → List ℕ → Closed → List ℕ → List ℕ → Type 0
-Closes r held out err q out′ err′ = (q ≡ closedOf (closing r held)) × ((out′ ≡ overFront (closing r held .out) out) × ((err′ ≡ overFront (closing r held .err) err) × ((q .used ≤ 32) × (q .said ≤ 512))))
+abbrev pub Closes : Recorder → List ℕ → Bool → List ℕ → List ℕ → Fed → List ℕ → List ℕ → Type 0
+Closes r held whole out err q out′ err′ =
+    (q ≡ closedOf r (closing r held whole))
+    × ((out′ ≡ overFront (closing r held whole .out) out) × ((err′ ≡ overFront (closing r held whole .err) err) × ((q .used ≤ 18) × (q .said ≤ 512))))
+
+-- what it returns, by how much was written
+abbrev ends : Recorder → ℕ → ℕ → Fed
+ends r used said = record { recorder = record { line = r .line; records = r .records; held = r .held; more = false }; taken = 0; used = used; said = said }
 
 module _ (r : Recorder) (held out err : List ℕ) where
-  pub closed : r .more ≡ false → Closes r held out err (record { used = 0; said = 0 }) out err
+  pub closed : (whole : Bool) → r .more ≡ false → Closes r held whole out err (ends r 0 0) out err
   unfolding closing
-  closed e = rw e (refl, (refl, (refl, (omega arith, omega arith))))
+  closed whole e = rw e (refl, (refl, (refl, (omega arith, omega arith))))
 
-  pub closes : {s : Step} {out′ err′ : List ℕ} → r .more ≡ true → 18 ≤ length out → s ≡ stepOf (lineMade (r .line) (r .records) (take (r .held - 0) held))
+  pub cut : {whole : Bool} {used : ℕ} {out′ : List ℕ} → r .more ≡ true → whole ≡ false → 0 < length out → Put out 0 (0 ∷ []) out′ used → Closes r held whole out err (ends r used 0) out′ err
+  unfolding closing
+  cut {used = used} m w h a =
+      let one : used ≡ 1 = a .place in
+      rw (m, w) (ap (λ n. ends r n 0) one, (a .stored ∙ sets-front out (0 ∷ []) (omega arith), (refl, (omega arith, omega arith))))
+
+  pub closes : {whole : Bool} {s : Step} {out′ err′ : List ℕ} → r .more ≡ true → whole ≡ true → 18 ≤ length out
+      → s ≡ stepOf (lineMade (r .line) (r .records) (take (r .held - 0) held))
       → out′ ≡ sets out 0 (lineMade (r .line) (r .records) (take (r .held - 0) held) .output .out)
       → err′ ≡ overFront (lineMade (r .line) (r .records) (take (r .held - 0) held) .output .err) err → s .said ≤ 512
-      → Closes r held out err (record { used = s .used; said = s .said }) out′ err′
+      → Closes r held whole out err (ends r (s .used) (s .said)) out′ err′
   unfolding closing
-  closes {s} {out′} {err′} m h e o p w =
+  closes {whole} {s} {out′} {err′} m t h e o p w =
       let k : r .held - 0 ≡ r .held = omega arith in
       let text = lineMade (r .line) (r .records) (take (r .held) held) .output .out in
       let front : sets out 0 text ≡ overFront text out = sets-front out text (omega (arith, line-short (r .line) (r .records) (take (r .held) held))) in
       let few : s .used ≤ 18 = rw e (line-short (r .line) (r .records) (take (r .held - 0) held)) in
-      rw m (rw (e, k) refl, (rw k at o ∙ front, (rw k at p, (omega arith, w))))
+      rw (m, t) (rw (e, k) refl, (rw k at o ∙ front, (rw k at p, (few, w))))
 
 -- THE PARTS OF A TEXT: up to the first line feed, and what is behind it
 abbrev first : List ℕ → ℕ

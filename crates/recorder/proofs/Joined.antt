@@ -295,7 +295,7 @@ module _ (r : Recorder) (held piece more : List ℕ) (room : ℕ) where
   feed-rest s = fed-by (ran-parts room (parts-of piece) (unfed r held) more s) (all .recorder .more) refl
 
 -- THE END: what is still to be written where no byte comes is what `close` writes
-pub close-rest : (r : Recorder) (held : List ℕ) → Stands r held [] → rest r held [] ≡ closing r held
+pub close-rest : (r : Recorder) (held : List ℕ) → Stands r held [] → rest r held [] ≡ closing r held true
 unfolding rest closing linesOn recordLines
 close-rest r held s =
     let l = take (r .held) held in
@@ -310,7 +310,7 @@ close-rest r held s =
 -- ANY PLAY: from a machine that stands so, each feeding is given any first part of the bytes that are left, and any room; at the end it is closed.
 -- Once it has stopped the play may end
 pub data Played : Recorder → List ℕ → List ℕ → Output → Type 0 where
-  closed : (r : Recorder) (held : List ℕ) → Played r held [] (closing r held)
+  closed : (r : Recorder) (held : List ℕ) → Played r held [] (closing r held true)
   stopped : (r : Recorder) (held bytes : List ℕ) → r .more ≡ false → Played r held bytes nothing
   fed : (r : Recorder) (held piece more : List ℕ) (room : ℕ) (o : Output)
       → Played (feeding r held piece room .recorder) (feeding r held piece room .held) (drop (feeding r held piece room .taken) (piece ++ more)) o

@@ -13,7 +13,6 @@ use Rattle.text.specs.Output.{Output, nothing, before}
 use Rattle.recorder.specs.declared.Recorder.{Recorder}
 use Rattle.recorder.specs.declared.Fed.{Fed}
 use Rattle.recorder.specs.declared.Step.{Step}
-use Rattle.recorder.specs.declared.Closed.{Closed}
 use Rattle.recorder.specs.Recorder.{Made, linesOn, longText, refused, lineMade, recordLines}
 
 -- a word of a text, counted from 0, as code finds it: its place
@@ -108,12 +107,14 @@ feeding r held piece room = takingAll (length piece) (partsFed room (unfed r hel
 abbrev pub fedOf : Feeding → Fed
 fedOf f = record { recorder = f .recorder; taken = f .taken; used = length (f .output .out); said = length (f .output .err) }
 
--- THE END of the input ends the last line
-unfoldable pub closing : Recorder → List ℕ → Output
-closing r held = cond (r .more) (lineMade (r .line) (r .records) (take (r .held) held) .output) nothing
+-- THE END of the input ends the last line; where more should have come, one byte 0, as behind a wrong line
+unfoldable pub closing : Recorder → List ℕ → Bool → Output
+closing r held whole =
+    cond (r .more) (cond whole (lineMade (r .line) (r .records) (take (r .held) held) .output) (record { out = 0 ∷ []; err = [] })) nothing
 
-abbrev pub closedOf : Output → Closed
-closedOf o = record { used = length (o .out); said = length (o .err) }
+abbrev pub closedOf : Recorder → Output → Fed
+closedOf r o =
+    record { recorder = record { line = r .line; records = r .records; held = r .held; more = false }; taken = 0; used = length (o .out); said = length (o .err) }
 
 -- what a machine that stands so has still to write where these bytes are all that comes
 unfoldable pub rest : Recorder → List ℕ → List ℕ → Output

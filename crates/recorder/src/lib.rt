@@ -36,11 +36,6 @@ pub struct Fed {
     pub said: usize,
 }
 
-pub struct Closed {
-    pub used: usize,
-    pub said: usize,
-}
-
 // A text from a place of a buffer on; the place after it.
 fn put(out: &mut [u8], at: usize, bytes: &[u8]) -> usize
     requires { ⌜ at + length (now bytes) ≤ length (now out) ⌝ }
@@ -488,26 +483,48 @@ pub fn feed(
     }
 }
 
-// THE END OF THE TEXT also ends a line.
+// THE END OF THE TEXT also ends a line. Where more should have come, `whole` is false: a byte 0 says so.
 pub fn close(
     recorder: Recorder,
     held: &[u8; 65536],
-    out: &mut [u8; 32],
+    whole: bool,
+    out: &mut [u8; 65536],
     err: &mut [u8; 512],
-) -> Closed
-    ensures { λ r. ⌜ r ≡ closedOf (closing recorder (now (held .entry))) ⌝ }
-    ensures { λ _. ⌜ now (out .exit) ≡ overFront (closing recorder (now (held .entry)) .out) (now (out .entry)) ⌝ }
-    ensures { λ _. ⌜ now (err .exit) ≡ overFront (closing recorder (now (held .entry)) .err) (now (err .entry)) ⌝ }
-    ensures { λ r. ⌜ (r .used ≤ 32) × (r .said ≤ 512) ⌝ }
+) -> Fed
+    ensures { λ r. ⌜ r ≡ closedOf recorder (closing recorder (now (held .entry)) whole) ⌝ }
+    ensures { λ _. ⌜ now (out .exit) ≡ overFront (closing recorder (now (held .entry)) whole .out) (now (out .entry)) ⌝ }
+    ensures { λ _. ⌜ now (err .exit) ≡ overFront (closing recorder (now (held .entry)) whole .err) (now (err .entry)) ⌝ }
+    ensures { λ r. ⌜ (r .used ≤ 18) × (r .said ≤ 512) ⌝ }
 {
+    let stopped = Recorder {
+        line: recorder.line,
+        records: recorder.records,
+        held: recorder.held,
+        more: false,
+    };
     if recorder.more {
-        let n = recorder.held as usize;
-        let whole = &held[..];
-        let s = put_line(recorder.line, recorder.records, &whole[0..n], out, 0, err);
-        return Closed {
-            used: s.used,
-            said: s.said,
+        if whole {
+            let n = recorder.held as usize;
+            let all = &held[..];
+            let s = put_line(recorder.line, recorder.records, &all[0..n], out, 0, err);
+            return Fed {
+                recorder: stopped,
+                taken: 0,
+                used: s.used,
+                said: s.said,
+            };
+        }
+        return Fed {
+            recorder: stopped,
+            taken: 0,
+            used: put(out, 0, b"\0"),
+            said: 0,
         };
     }
-    Closed { used: 0, said: 0 }
+    Fed {
+        recorder: stopped,
+        taken: 0,
+        used: 0,
+        said: 0,
+    }
 }

@@ -1,6 +1,6 @@
--- `recorder::close` meets its contract: the held bytes are the last line. Assumes nothing.
+-- `recorder::close` meets its contract: the held bytes are the last line, or the text was cut short, or it had stopped. Assumes nothing.
 use native.Mathlib.Omega.{arith}
-use Rattle.recorder.proofs.Feeding.{closes, closed}
+use Rattle.recorder.proofs.Feeding.{closes, cut, closed}
 use borrow.Author.Needs.{needs}
 use Rattle.recorder.proofs.close.Statement.{statement}
 use Rattle.recorder.proofs.close.Tie as tie
@@ -24,11 +24,25 @@ returns : tie.Need-returns
 returns c =
     let p = c .put-line .ensures in
     let t = c .before .before .before .before .before .before in
-    let a = t .before .args in
-    closes (a .recorder) (a .held .now) (a .out .now) (a .err .now) (t .if1 .taken) (omega arith) (p .0) (p .1 .0) (p .1 .1 .0) (p .1 .1 .1)
+    let a = t .before .before .args in
+    closes (a .recorder) (a .held .now) (a .out .now) (a .err .now) (t .before .if1 .taken) (t .if2 .taken) (omega arith) (p .0) (p .1 .0) (p .1 .1 .0) (p .1 .1 .1)
+
+slice-aggregate-put : tie.Need-slice-aggregate-put
+slice-aggregate-put c = search needs
+
+put-requires : tie.Need-put-requires
+put-requires c κs = search needs
 
 returns-2 : tie.Need-returns-2
-returns-2 c = closed _ _ _ _ (c .if1 .left)
+returns-2 c =
+    let e = c .before .before .before in
+    let a = e .before .before .args in
+    cut (a .recorder) (a .held .now) (a .out .now) (a .err .now) (e .before .if1 .taken) (e .if2 .left) (omega arith) (c .put .ensures .0)
+
+returns-3 : tie.Need-returns-3
+returns-3 c =
+    let a = c .before .args in
+    closed (a .recorder) (a .held .now) (a .out .now) (a .err .now) (a .whole) (c .if1 .left)
 
 pub close-spec : {M : Type 1} → statement M
 close-spec =
@@ -40,4 +54,7 @@ close-spec =
     part-put-line-end
     put-line-requires
     returns
-    returns-2)
+    slice-aggregate-put
+    put-requires
+    returns-2
+    returns-3)
