@@ -28,6 +28,10 @@ use Rattle.recorder.proofs.Recording.{line-quiet, line-short}
 pub sets-front : (l xs : List ℕ) → length xs ≤ length l → sets l 0 xs ≡ overFront xs l
 sets-front l xs h = sets-eq xs l 0 (omega arith) ∙ ap (λ k. xs ++ drop k l) (zero-add (length xs))
 
+-- it lies in the buffer
+pub front-long : (xs l : List ℕ) → length xs ≤ length (overFront xs l)
+front-long xs l = omega (arith, length-append xs (drop (length xs) l))
+
 -- WHAT A PART DOES: too long, the end of a line, or kept
 pub data Parted (r : Recorder) (held part : List ℕ) : Bool → Feeding → Type 0 where
   long : {ends : Bool} → 65536 - r .held ≤ length part → Parted r held part ends (longFed r held part)
@@ -106,36 +110,36 @@ module _ {r : Recorder} {held part : List ℕ} where
 
 -- THE PROMISE OF A PART: what is returned, and what the three buffers then are
 abbrev pub Does : Feeding → ℕ → List ℕ → List ℕ → Fed → List ℕ → List ℕ → List ℕ → Type 0
-Does f used out err q held′ out′ err′ = (q ≡ fedOf f) × ((held′ ≡ f .held) × ((out′ ≡ sets out used (f .output .out)) × ((err′ ≡ overFront (f .output .err) err) × (q .said ≤ 512))))
+Does f used out err q held′ out′ err′ = (q ≡ fedOf f) × ((held′ ≡ f .held) × ((out′ ≡ sets out used (f .output .out)) × (err′ ≡ overFront (f .output .err) err)))
 
 module _ (r : Recorder) (held part : List ℕ) (used : ℕ) (out err : List ℕ) where
   pub does-long : (ends : Bool) {said : ℕ} {err′ : List ℕ} → 65536 - r .held ≤ length part
-      → said ≡ length (longText (r .line) (r .records)) → (err′ ≡ overFront (longText (r .line) (r .records)) err) × (said ≤ 512)
+      → said ≡ length (longText (r .line) (r .records)) → err′ ≡ overFront (longText (r .line) (r .records)) err
       → Does (partFed r held part ends) used out err (record { recorder = longFed r held part .recorder; taken = length part; used = 1; said = said }) held (set out used 0) err′
-  does-long ends h s e = rw (part-long r held part ends h) (rw s refl, (refl, (refl, (e .0, e .1))))
+  does-long ends h s e = rw (part-long r held part ends h) (rw s refl, (refl, (refl, e)))
 
   pub does-line : {ends : Bool} {end line records : ℕ} {s : Step} {held′ out′ err′ : List ℕ} → ends ≡ true → length part < 65536 - r .held
       → end ≡ r .held + length part → held′ ≡ sets held (r .held) part
       → s ≡ stepOf (lineMade (r .line) (r .records) (take (end - 0) held′)) → out′ ≡ sets out used (lineMade (r .line) (r .records) (take (end - 0) held′) .output .out)
-      → err′ ≡ overFront (lineMade (r .line) (r .records) (take (end - 0) held′) .output .err) err → s .said ≤ 512 → line ≡ added (r .line) 1 → records ≡ added (r .records) (s .records)
+      → err′ ≡ overFront (lineMade (r .line) (r .records) (take (end - 0) held′) .output .err) err → line ≡ added (r .line) 1 → records ≡ added (r .records) (s .records)
       → Does (partFed r held part ends) used out err
       (record { recorder = record { line = line; records = records; held = 0; more = s .more }; taken = length part + 1; used = s .used; said = s .said }) held′ out′ err′
   unfolding lineFed
-  does-line {end = end} {s = s} {held′ = held′} t h n b e o p w l c =
+  does-line {end = end} {s = s} {held′ = held′} t h n b e o p l c =
       let k : end - 0 ≡ r .held + length part = omega arith in
       let now : take (end - 0) held′ ≡ take (r .held + length part) (sets held (r .held) part) = ap (λ i. take i held′) k ∙ ap (take (r .held + length part)) b in
-      rw (t, part-line r held part h) (rw (l, c, e, now) refl, (b, (rw now at o, (rw now at p, w))))
+      rw (t, part-line r held part h) (rw (l, c, e, now) refl, (b, (rw now at o, rw now at p)))
 
   pub does-kept : {ends : Bool} {end : ℕ} {held′ : List ℕ} → ends ≡ false → length part < 65536 - r .held → end ≡ r .held + length part → held′ ≡ sets held (r .held) part
       → Does (partFed r held part ends) used out err
       (record { recorder = record { line = r .line; records = r .records; held = end; more = r .more }; taken = length part; used = 0; said = 0 }) held′ out err
-  does-kept t h n b = rw (t, part-kept r held part h) (rw n refl, (b, (refl, (refl, omega arith))))
+  does-kept t h n b = rw (t, part-kept r held part h) (rw n refl, (b, (refl, refl)))
 
 -- THE PROMISE OF THE END
 abbrev pub Closes : Recorder → List ℕ → Bool → List ℕ → List ℕ → Fed → List ℕ → List ℕ → Type 0
 Closes r held whole out err q out′ err′ =
     (q ≡ closedOf r (closing r held whole))
-    × ((out′ ≡ overFront (closing r held whole .out) out) × ((err′ ≡ overFront (closing r held whole .err) err) × ((q .used ≤ 18) × (q .said ≤ 512))))
+    × ((out′ ≡ overFront (closing r held whole .out) out) × ((err′ ≡ overFront (closing r held whole .err) err) × ((q .used ≤ length out′) × (q .said ≤ length err′))))
 
 -- what it returns, by how much was written
 abbrev ends : Recorder → ℕ → ℕ → Fed
@@ -150,20 +154,21 @@ module _ (r : Recorder) (held out err : List ℕ) where
   unfolding closing
   cut {used = used} m w h a =
       let one : used ≡ 1 = a .place in
-      rw (m, w) (ap (λ n. ends r n 0) one, (a .stored ∙ sets-front out (0 ∷ []) (omega arith), (refl, (omega arith, omega arith))))
+      rw (m, w) (ap (λ n. ends r n 0) one, (a .stored ∙ sets-front out (0 ∷ []) (omega arith), (refl, (omega (arith, ap length (a .stored), length-sets out 0 (0 ∷ [])), omega arith))))
 
   pub closes : {whole : Bool} {s : Step} {out′ err′ : List ℕ} → r .more ≡ true → whole ≡ true → 18 ≤ length out
       → s ≡ stepOf (lineMade (r .line) (r .records) (take (r .held - 0) held))
       → out′ ≡ sets out 0 (lineMade (r .line) (r .records) (take (r .held - 0) held) .output .out)
-      → err′ ≡ overFront (lineMade (r .line) (r .records) (take (r .held - 0) held) .output .err) err → s .said ≤ 512
+      → err′ ≡ overFront (lineMade (r .line) (r .records) (take (r .held - 0) held) .output .err) err
       → Closes r held whole out err (ends r (s .used) (s .said)) out′ err′
   unfolding closing
-  closes {whole} {s} {out′} {err′} m t h e o p w =
+  closes {whole} {s} {out′} {err′} m t h e o p =
       let k : r .held - 0 ≡ r .held = omega arith in
       let text = lineMade (r .line) (r .records) (take (r .held) held) .output .out in
       let front : sets out 0 text ≡ overFront text out = sets-front out text (omega (arith, line-short (r .line) (r .records) (take (r .held) held))) in
-      let few : s .used ≤ 18 = rw e (line-short (r .line) (r .records) (take (r .held - 0) held)) in
-      rw (m, t) (rw (e, k) refl, (rw k at o ∙ front, (rw k at p, (few, w))))
+      let used-fits : s .used ≤ length out′ = rw (e, k, o, k, front) (front-long text out) in
+      let said-fits : s .said ≤ length err′ = rw (e, k, p, k) (front-long (lineMade (r .line) (r .records) (take (r .held) held) .output .err) err) in
+      rw (m, t) (rw (e, k) refl, (rw k at o ∙ front, (rw k at p, (used-fits, said-fits))))
 
 -- THE PARTS OF A TEXT: up to the first line feed, and what is behind it
 abbrev first : List ℕ → ℕ

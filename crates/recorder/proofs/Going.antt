@@ -19,7 +19,7 @@ use Rattle.recorder.specs.declared.Recorder.{Recorder}
 use Rattle.recorder.specs.declared.Fed.{Fed}
 use Rattle.recorder.specs.Recorder.{linesOn}
 use Rattle.recorder.specs.Machine.{Feeding, partFed, after, goesOn, partsFed, takingAll, unfed, feeding, fedOf}
-use Rattle.recorder.proofs.Feeding.{Parted, parted, part-quiet, part-short, part-few, part-most, part-all, part-some, Does, sets-front, lines-on, lines-last, parts-stop, parts-last, parts-more, parts-end}
+use Rattle.recorder.proofs.Feeding.{Parted, parted, part-quiet, part-short, part-few, part-most, part-all, part-some, Does, sets-front, front-long, lines-on, lines-last, parts-stop, parts-last, parts-more, parts-end}
 
 -- both hold, the first does not, the second does not
 both-l : (a b : Bool) → (a && b) ≡ true → a ≡ true
@@ -52,7 +52,6 @@ pub record Going (r₀ : Recorder) (held₀ piece out₀ err₀ held out err : L
   pub told : err ≡ overFront (acc .err) err₀
   pub count : used ≡ length (acc .out)
   pub words : said ≡ length (acc .err)
-  pub brief : said ≤ 512
   pub quiet : r .more ≡ true → acc .err ≡ []
   pub left : partsFed (length out₀) (standing r held at acc) (linesOn [] (drop at piece)) ≡ partsFed (length out₀) (unfed r₀ held₀) (linesOn [] piece)
 
@@ -68,7 +67,6 @@ going-none r held piece out err h =
       told = refl;
       count = refl;
       words = refl;
-      brief = omega arith;
       quiet = λ e. refl;
       left = refl;
     }
@@ -165,9 +163,9 @@ module _ {r₀ : Recorder} {held₀ piece out₀ err₀ held out err : List ℕ}
           by true e = omega arith
           by false e = let k : length piece ≤ end = ltb-false _ _ e in omega (arith, this-size, is-first, some-left)
 
-      going-fed : length (fed .output .err) ≤ 512 → Going r₀ held₀ piece out₀ err₀ (fed .held) (sets out used (fed .output .out)) (overFront (fed .output .err) err) (fed .recorder) (at + fed .taken)
+      going-fed : Going r₀ held₀ piece out₀ err₀ (fed .held) (sets out used (fed .output .out)) (overFront (fed .output .err) err) (fed .recorder) (at + fed .taken)
           (used + length (fed .output .out)) (length (fed .output .err))
-      going-fed b =
+      going-fed =
           let silent : g .acc .err ≡ [] = g .quiet more-is in
           let at-end : used ≡ 0 + length (g .acc .out) = omega (arith, g .count) in
           record {
@@ -179,14 +177,13 @@ module _ {r₀ : Recorder} {held₀ piece out₀ err₀ held out err : List ℕ}
             told = ap (overFront (fed .output .err)) (g .told ∙ ap (λ t. overFront t err₀) silent) ∙ ap (λ t. overFront (t ++ fed .output .err) err₀) (sym silent);
             count = ap (λ k. k + length (fed .output .out)) (g .count) ∙ sym (length-append (g .acc .out) (fed .output .out));
             words = ap (λ t. length (t ++ fed .output .err)) (sym silent);
-            brief = b;
             quiet = λ e. ap (λ t. t ++ fed .output .err) silent ∙ part-quiet how e;
             left = sym behind ∙ sym (left-ends (ltb end (length piece)) refl) ∙ g .left;
           }
 
       pub going-more : {q : Fed} {held′ out′ err′ : List ℕ} → Does (partFed r held (part at end piece) (ltb end (length piece))) used out err q held′ out′ err′
           → Going r₀ held₀ piece out₀ err₀ held′ out′ err′ (q .recorder) (at + q .taken) (used + q .used) (q .said)
-      going-more d = rw (d .0, d .1 .0, d .1 .1 .0, d .1 .1 .1 .0) (going-fed (rw (d .0) at (d .1 .1 .1 .1)))
+      going-more d = rw (d .0, d .1 .0, d .1 .1 .0, d .1 .1 .1) going-fed
 
       pub goes-further : {q : Fed} → q ≡ fedOf (partFed r held (part at end piece) (ltb end (length piece)))
           → (0 < q .taken) × (at + q .taken ≤ length piece) × (used + q .used ≤ length out₀)
@@ -212,11 +209,12 @@ module _ {r₀ : Recorder} {held₀ piece out₀ err₀ held out err : List ℕ}
     whole = ap (takingAll (length piece)) (sym (g .left) ∙ ended)
 
     pub going-done : {taken : ℕ} → taken ≡ cond (r .more) at (length piece) → let f = feeding r₀ held₀ piece (length out₀) in
-        (record { recorder = r; taken = taken; used = used; said = said } ≡ fedOf f) × ((held ≡ f .held) × ((out ≡ overFront (f .output .out) out₀) × ((err ≡ overFront (f .output .err) err₀) × ((taken ≤ length piece) × (used ≤ length out₀) × (said ≤ 512)))))
+        (record { recorder = r; taken = taken; used = used; said = said } ≡ fedOf f) × ((held ≡ f .held) × ((out ≡ overFront (f .output .out) out₀) × ((err ≡ overFront (f .output .err) err₀) × ((taken ≤ length piece) × (used ≤ length out) × (said ≤ length err)))))
     going-done {taken} e =
         let most : taken ≤ length piece = by (r .more) e in
+        let told-fits : said ≤ length err = rw (g .words, g .told) (front-long (g .acc .err) err₀) in
         let front : sets out₀ 0 (g .acc .out) ≡ overFront (g .acc .out) out₀ = sets-front out₀ (g .acc .out) (omega (arith, g .fits, g .count)) in
-        rw whole (rw (e, g .count, g .words) refl, (refl, (g .stored ∙ front, (g .told, (most, g .fits, g .brief)))))
+        rw whole (rw (e, g .count, g .words) refl, (refl, (g .stored ∙ front, (g .told, (most, omega (arith, g .fits, same-room), told-fits)))))
       where
         by : (t : Bool) {k : ℕ} → k ≡ cond t at (length piece) → k ≤ length piece
         by true e = omega (arith, g .place)

@@ -194,7 +194,6 @@ fn put_wrong(
 ) -> usize
     ensures { λ r. ⌜ r ≡ length (wrongText line records kind word (now (bytes .entry))) ⌝ }
     ensures { λ r. ⌜ now (err .exit) ≡ overFront (wrongText line records kind word (now (bytes .entry))) (now (err .entry)) ⌝ }
-    ensures { λ r. ⌜ r ≤ 512 ⌝ }
 {
     let line_at = put(err, 0, b"record: line ");
     let line_end = text::put_wide(err, line_at, line);
@@ -211,7 +210,6 @@ fn put_wrong(
 fn put_too_long(err: &mut [u8; 512], line: u64, records: u64) -> usize
     ensures { λ r. ⌜ r ≡ length (longText line records) ⌝ }
     ensures { λ r. ⌜ now (err .exit) ≡ overFront (longText line records) (now (err .entry)) ⌝ }
-    ensures { λ r. ⌜ r ≤ 512 ⌝ }
 {
     let line_at = put(err, 0, b"record: line ");
     let line_end = text::put_wide(err, line_at, line);
@@ -270,7 +268,6 @@ fn complain(
 ) -> usize
     ensures { λ r. ⌜ r ≡ length (wrongText line records kind word (getD (words (bare (now (text .entry)))) (word - 1) [])) ⌝ }
     ensures { λ r. ⌜ now (err .exit) ≡ overFront (wrongText line records kind word (getD (words (bare (now (text .entry)))) (word - 1) [])) (now (err .entry)) ⌝ }
-    ensures { λ r. ⌜ r ≤ 512 ⌝ }
 {
     let end = bare_end(text);
     let bare = &text[0..end];
@@ -330,7 +327,6 @@ fn put_line(
     ensures { λ r. ⌜ r ≡ stepOf (lineMade line records (now (text .entry))) ⌝ }
     ensures { λ _. ⌜ now (out .exit) ≡ sets (now (out .entry)) used (lineMade line records (now (text .entry)) .output .out) ⌝ }
     ensures { λ _. ⌜ now (err .exit) ≡ overFront (lineMade line records (now (text .entry)) .output .err) (now (err .entry)) ⌝ }
-    ensures { λ r. ⌜ r .said ≤ 512 ⌝ }
 {
     let from = mark_end(line, text);
     let bare = &text[from..];
@@ -382,7 +378,6 @@ fn feed_part(
     ensures { λ _. ⌜ now (held .exit) ≡ partFed r (now (held .entry)) (now (part .entry)) ends .held ⌝ }
     ensures { λ _. ⌜ now (out .exit) ≡ sets (now (out .entry)) used (partFed r (now (held .entry)) (now (part .entry)) ends .output .out) ⌝ }
     ensures { λ _. ⌜ now (err .exit) ≡ overFront (partFed r (now (held .entry)) (now (part .entry)) ends .output .err) (now (err .entry)) ⌝ }
-    ensures { λ q. ⌜ q .said ≤ 512 ⌝ }
 {
     let from = r.held as usize;
     let size = part.len();
@@ -460,7 +455,7 @@ pub fn feed(
     ensures { λ _. ⌜ now (held .exit) ≡ feeding recorder (now (held .entry)) (now (piece .entry)) (length (now (out .entry))) .held ⌝ }
     ensures { λ _. ⌜ now (out .exit) ≡ overFront (feeding recorder (now (held .entry)) (now (piece .entry)) (length (now (out .entry))) .output .out) (now (out .entry)) ⌝ }
     ensures { λ _. ⌜ now (err .exit) ≡ overFront (feeding recorder (now (held .entry)) (now (piece .entry)) (length (now (out .entry))) .output .err) (now (err .entry)) ⌝ }
-    ensures { λ r. ⌜ (r .taken ≤ length (now (piece .entry))) × (r .used ≤ length (now (out .entry))) × (r .said ≤ 512) ⌝ }
+    ensures { λ r. ⌜ (r .taken ≤ length (now (piece .entry))) × (r .used ≤ length (now (out .exit))) × (r .said ≤ length (now (err .exit))) ⌝ }
 {
     let mut r = recorder;
     let mut at: usize = 0;
@@ -494,7 +489,7 @@ pub fn close(
     ensures { λ r. ⌜ r ≡ closedOf recorder (closing recorder (now (held .entry)) whole) ⌝ }
     ensures { λ _. ⌜ now (out .exit) ≡ overFront (closing recorder (now (held .entry)) whole .out) (now (out .entry)) ⌝ }
     ensures { λ _. ⌜ now (err .exit) ≡ overFront (closing recorder (now (held .entry)) whole .err) (now (err .entry)) ⌝ }
-    ensures { λ r. ⌜ (r .used ≤ 18) × (r .said ≤ 512) ⌝ }
+    ensures { λ r. ⌜ (r .used ≤ length (now (out .exit))) × (r .said ≤ length (now (err .exit))) ⌝ }
 {
     let stopped = Recorder {
         line: recorder.line,

@@ -25,7 +25,7 @@ returns c =
     let p = c .put-line .ensures in
     let t = c .before .before .before .before .before .before in
     let a = t .before .before .args in
-    closes (a .recorder) (a .held .now) (a .out .now) (a .err .now) (t .before .if1 .taken) (t .if2 .taken) (omega arith) (p .0) (p .1 .0) (p .1 .1 .0) (p .1 .1 .1)
+    closes (a .recorder) (a .held .now) (a .out .now) (a .err .now) (t .before .if1 .taken) (t .if2 .taken) (omega arith) (p .0) (p .1 .0) (p .1 .1)
 
 slice-aggregate-put : tie.Need-slice-aggregate-put
 slice-aggregate-put c = search needs

@@ -43,7 +43,7 @@ returns c =
     let a = c .before .before .before .before .before .before .before .args in
     let m : e .result - 0 ≡ e .result = omega arith in
     let word = n .ensures .word ∙ ap (λ k. getD (words (take k (a .text .now))) (a .word - 1) []) m ∙ ap (λ t. getD (words t) (a .word - 1) []) (e .ensures .0) in
-    (rw word at (c .put-wrong .ensures .0), (rw word at (c .put-wrong .ensures .1 .0), c .put-wrong .ensures .1 .1))
+    (rw word at (c .put-wrong .ensures .0), rw word at (c .put-wrong .ensures .1))
 
 pub complain-spec : {M : Type 1} → statement M
 complain-spec =

@@ -69,7 +69,7 @@ returns-2 c =
     let a = startOf bytes .args in
     let p = line .put-line .ensures in
     does-line (a .r) (a .held .now) (a .part .now) (a .used) (a .out .now) (a .err .now) (test .if2 .taken) (fits bytes)
-    (bytes .put-bytes .ensures .0) (bytes .put-bytes .ensures .1) (p .0) (p .1 .0) (p .1 .1 .0) (p .1 .1 .1) (c .before .add .ensures) (c .add2 .ensures)
+    (bytes .put-bytes .ensures .0) (bytes .put-bytes .ensures .1) (p .0) (p .1 .0) (p .1 .1) (c .before .add .ensures) (c .add2 .ensures)
 
 cast-t32 : tie.Need-cast-t32
 cast-t32 c = search needs

@@ -2,7 +2,6 @@
 use mathlib.Core.Path.{_≡_, refl, ap}
 use mathlib.Core.Bool.{true, false}
 use Prim.Native.Nat.{ℕ}
-use native.Mathlib.Omega.{arith}
 use lib.ListN.{length}
 use Rattle.tokens.specs.Walks.{part}
 use Rattle.lines.specs.declared.Line.{Line}
@@ -58,7 +57,7 @@ complain-requires c κs = search needs
 
 returns : tie.Need-returns
 unfolding madeOf
-returns c = rw (by-read (c .before .before) Nothing (c .enum-told .given .1)) (refl, (refl, (refl, omega arith)))
+returns c = rw (by-read (c .before .before) Nothing (c .enum-told .given .1)) (refl, (refl, refl))
 
 same-length : tie.Need-same-length
 same-length c = search needs
@@ -69,7 +68,7 @@ returns-2 c =
     let s = c .before .before .before .before .before in
     let p = c .before .before .put-record .ensures in
     let step : ℕ → Step = λ n. record { used = n; said = 0; records = 1; more = true } in
-    rw (by-read (s .before .before) (Says _) (s .said .given .1)) (ap step (p .0), (p .1, (refl, omega arith)))
+    rw (by-read (s .before .before) (Says _) (s .said .given .1)) (ap step (p .0), (p .1, refl))
 
 same-length-2 : tie.Need-same-length-2
 same-length-2 c = search needs
@@ -80,7 +79,7 @@ returns-3 c =
     let s = c .before .before .before in
     let p = c .complain .ensures in
     let step : ℕ → Step = λ n. record { used = 1; said = n; records = 0; more = false } in
-    rw (by-read (s .before .before) (Wrong _ _) (s .said2 .given .1)) (ap step (p .0), (refl, (p .1 .0, p .1 .1)))
+    rw (by-read (s .before .before) (Wrong _ _) (s .said2 .given .1)) (ap step (p .0), (refl, p .1))
 
 pub put-line-spec : {M : Type 1} → statement M
 put-line-spec =

@@ -35,8 +35,7 @@ returns c =
     let line = number .before .before in
     let all = put-both (line .put .ensures .0) (put-both (number .put-wide .ensures .0) (put-both (end .put2 .ensures .0) (count .0))) in
     let most : c .put-count .result ≤ 200 = omega (arith, line .put .ensures .1, number .put-wide .ensures .1, end .put2 .ensures .1, count .1) in
-    let front = at-front _ all (omega arith) in
-    (front .0, (front .1, omega arith))
+    at-front _ all (omega arith)
 
 pub put-too-long-spec : {M : Type 1} → statement M
 put-too-long-spec =

@@ -88,8 +88,7 @@ returns c =
     let quote = put-both (quoteOf p .put3 .ensures .0) (put-both (quotedOf p .put-quoted .ensures .0) (put-both (colonOf p .put4 .ensures .0) wants)) in
     let word = put-both (commaOf p .put2 .ensures .0) (put-both (wordOf p .put-wide2 .ensures .0) quote) in
     let all = put-both (frontOf p .put .ensures .0) (put-both (lineOf p .put-wide .ensures .0) word) in
-    let front = at-front _ all (omega (arith, room-left p, c .put-count .ensures .1, frontOf p .before .before .put-arg .given)) in
-    (front .0, (front .1, omega (arith, room-left p, c .put-count .ensures .1)))
+    at-front _ all (omega (arith, room-left p, c .put-count .ensures .1, frontOf p .before .before .put-arg .given))
 
 pub put-wrong-spec : {M : Type 1} → statement M
 put-wrong-spec =
