@@ -4,6 +4,7 @@ use mathlib.Core.Path.{_≡_, ap}
 use mathlib.Core.Logic.{⊎-elim}
 use native.Mathlib.Omega.{arith}
 use lib.ListN.{length}
+use lib.Seq.{length-slice}
 use borrow.Author.Needs.{needs}
 use Rattle.record.proofs.main.Statement.{statement}
 use Rattle.record.proofs.main.Tie as tie
@@ -18,6 +19,16 @@ abbrev μ-loop : tie.MeasureT-loop
 -- what is left of the piece, or the next one
 waits : (j : tie.Joined1 Inv-loop μ-loop) → (65536 ≡ length (j .if1 .piece)) × (j .if1 .from ≤ j .if1 .to) × (j .if1 .to ≤ 65536)
 waits j = ⊎-elim (λ w. (omega (arith, ap length (w .6)), omega arith, omega arith)) (λ w. (omega (arith, ap length (w .1)), omega arith, omega arith)) (j .if1 .came)
+
+abbrev joinedOf : tie.After-feed Inv-loop μ-loop → tie.Joined1 Inv-loop μ-loop
+joinedOf c = c .before .before .before .before .before .before .before .before
+
+-- no more is taken than waits
+moved : (c : tie.After-feed Inv-loop μ-loop) → let w = joinedOf c .if1 in w .from + c .feed .result .taken ≤ w .to
+moved c =
+    let w = joinedOf c .if1 in
+    let h = waits (joinedOf c) in
+    omega (arith, h, c .feed .ensures .1 .1 .1 .1 .0, length-slice (w .from) (w .to) (w .piece) (omega (arith, h)))
 
 large-buffer-requires : tie.Need-large-buffer-requires Inv-loop μ-loop
 large-buffer-requires c κs = search needs
@@ -83,7 +94,7 @@ write-requires : tie.Need-write-requires Inv-loop μ-loop
 write-requires c κs = search needs
 
 add-from : tie.Need-add-from Inv-loop μ-loop
-add-from c = ?
+add-from c = let f = c .before .before .before .before .before .before .before .before in omega (arith, moved f, waits (joinedOf f))
 
 turns-left-requires : tie.Need-turns-left-requires Inv-loop μ-loop
 turns-left-requires c κs = search needs
@@ -92,7 +103,12 @@ loop-less : tie.Need-loop-less Inv-loop μ-loop
 loop-less c = search needs
 
 loop-again : tie.Need-loop-again Inv-loop μ-loop
-loop-again c = ?
+loop-again c =
+    let o = c .before .before .before .before .before .before .before .before .before in
+    let f = o .before in
+    let h = waits (joinedOf f) in
+    let room = joinedOf f .before .before .loop .inv .1 in
+    (h .0, omega (arith, room, o .out2 .given), omega (arith, moved f), h .2)
 
 slice-aggregate-fail : tie.Need-slice-aggregate-fail Inv-loop μ-loop
 slice-aggregate-fail c = search needs
