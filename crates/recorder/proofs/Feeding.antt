@@ -150,7 +150,8 @@ module _ (r : Recorder) (held out err : List ℕ) where
   unfolding closing
   closed whole e = rw e (refl, (refl, (refl, (omega arith, omega arith))))
 
-  pub cut : {whole : Bool} {used : ℕ} {out′ : List ℕ} → r .more ≡ true → whole ≡ false → 0 < length out → Put out 0 (0 ∷ []) out′ used → Closes r held whole out err (ends r used 0) out′ err
+  pub cut : {whole : Bool} {used : ℕ} {out′ : List ℕ} → r .more ≡ true → whole ≡ false → 0 < length out → Put out 0 (0 ∷ []) out′ used
+      → Closes r held whole out err (ends r used 0) out′ err
   unfolding closing
   cut {used = used} m w h a =
       let one : used ≡ 1 = a .place in
@@ -222,7 +223,8 @@ module _ (room : ℕ) (f : Feeding) where
   unfolding partsFed
   parts-last e p = ap (λ t. cond t (after f (partFed (f .recorder) (f .held) p false)) f) e
 
-  pub parts-more : goesOn room f ≡ true → (p : List ℕ) (begun xs : List ℕ) → partsFed room f (p ∷ linesOn begun xs) ≡ partsFed room (after f (partFed (f .recorder) (f .held) p true)) (linesOn begun xs)
+  pub parts-more : goesOn room f ≡ true → (p : List ℕ) (begun xs : List ℕ)
+      → partsFed room f (p ∷ linesOn begun xs) ≡ partsFed room (after f (partFed (f .recorder) (f .held) p true)) (linesOn begun xs)
   unfolding partsFed
   parts-more e p begun xs =
       some-line begun xs (λ ls. partsFed room f (p ∷ ls) ≡ partsFed room (after f (partFed (f .recorder) (f .held) p true)) ls)

@@ -19,7 +19,8 @@ use Rattle.recorder.specs.declared.Recorder.{Recorder}
 use Rattle.recorder.specs.declared.Fed.{Fed}
 use Rattle.recorder.specs.Recorder.{linesOn}
 use Rattle.recorder.specs.Machine.{Feeding, partFed, after, goesOn, partsFed, takingAll, unfed, feeding, fedOf}
-use Rattle.recorder.proofs.Feeding.{Parted, parted, part-quiet, part-short, part-few, part-most, part-all, part-some, Does, sets-front, front-long, lines-on, lines-last, parts-stop, parts-last, parts-more, parts-end}
+use Rattle.recorder.proofs.Feeding.{Parted, parted, part-quiet, part-short, part-few, part-most, part-all, part-some, Does, sets-front, front-long}
+use Rattle.recorder.proofs.Feeding.{lines-on, lines-last, parts-stop, parts-last, parts-more, parts-end}
 
 -- both hold, the first does not, the second does not
 both-l : (a b : Bool) → (a && b) ≡ true → a ≡ true
@@ -173,7 +174,9 @@ module _ {r₀ : Recorder} {held₀ piece out₀ err₀ held out err : List ℕ}
             place = within;
             few = part-few how (g .few);
             fits = omega (arith, room-left, same-room, part-short how);
-            stored = ap (λ l. sets l used (fed .output .out)) (g .stored) ∙ ap (λ k. sets (sets out₀ 0 (g .acc .out)) k (fed .output .out)) at-end ∙ sets-append out₀ 0 (g .acc .out) (fed .output .out);
+            stored =
+                ap (λ l. sets l used (fed .output .out)) (g .stored) ∙ ap (λ k. sets (sets out₀ 0 (g .acc .out)) k (fed .output .out)) at-end
+                ∙ sets-append out₀ 0 (g .acc .out) (fed .output .out);
             told = ap (overFront (fed .output .err)) (g .told ∙ ap (λ t. overFront t err₀) silent) ∙ ap (λ t. overFront (t ++ fed .output .err) err₀) (sym silent);
             count = ap (λ k. k + length (fed .output .out)) (g .count) ∙ sym (length-append (g .acc .out) (fed .output .out));
             words = ap (λ t. length (t ++ fed .output .err)) (sym silent);
@@ -194,7 +197,8 @@ module _ {r₀ : Recorder} {held₀ piece out₀ err₀ held out err : List ℕ}
     ended : partsFed (length out₀) (standing r held at (g .acc)) (linesOn [] (drop at piece)) ≡ standing r held at (g .acc)
     ended = by (goesOn (length out₀) (standing r held at (g .acc))) refl
       where
-        by : (t : Bool) → goesOn (length out₀) (standing r held at (g .acc)) ≡ t → partsFed (length out₀) (standing r held at (g .acc)) (linesOn [] (drop at piece)) ≡ standing r held at (g .acc)
+        by : (t : Bool) → goesOn (length out₀) (standing r held at (g .acc)) ≡ t
+            → partsFed (length out₀) (standing r held at (g .acc)) (linesOn [] (drop at piece)) ≡ standing r held at (g .acc)
         by false e = parts-stop (length out₀) (standing r held at (g .acc)) e _
         by true e =
             let m : r .more ≡ true = both-l (r .more) _ e in
@@ -209,7 +213,9 @@ module _ {r₀ : Recorder} {held₀ piece out₀ err₀ held out err : List ℕ}
     whole = ap (takingAll (length piece)) (sym (g .left) ∙ ended)
 
     pub going-done : {taken : ℕ} → taken ≡ cond (r .more) at (length piece) → let f = feeding r₀ held₀ piece (length out₀) in
-        (record { recorder = r; taken = taken; used = used; said = said } ≡ fedOf f) × ((held ≡ f .held) × ((out ≡ overFront (f .output .out) out₀) × ((err ≡ overFront (f .output .err) err₀) × ((taken ≤ length piece) × (used ≤ length out) × (said ≤ length err)))))
+        (record { recorder = r; taken = taken; used = used; said = said } ≡ fedOf f)
+        × ((held ≡ f .held) × ((out ≡ overFront (f .output .out) out₀) × ((err ≡ overFront (f .output .err) err₀)
+        × ((taken ≤ length piece) × (used ≤ length out) × (said ≤ length err)))))
     going-done {taken} e =
         let most : taken ≤ length piece = by (r .more) e in
         let told-fits : said ≤ length err = rw (g .words, g .told) (front-long (g .acc .err) err₀) in

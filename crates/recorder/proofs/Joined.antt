@@ -273,7 +273,8 @@ module _ (room : ℕ) where
 
 -- ONE CALL OF `feed`: what it wrote and what is still to be written, of the bytes that it did not take, is what was to be written
 pub record Fed (r : Recorder) (held piece more : List ℕ) (room : ℕ) : Type 0 where
-  pub same : rest r held (piece ++ more) ≡ before (feeding r held piece room .output) (rest (feeding r held piece room .recorder) (feeding r held piece room .held) (drop (feeding r held piece room .taken) (piece ++ more)))
+  pub same : let f = feeding r held piece room in
+      rest r held (piece ++ more) ≡ before (f .output) (rest (f .recorder) (f .held) (drop (f .taken) (piece ++ more)))
   pub stands : Stands (feeding r held piece room .recorder) (feeding r held piece room .held) (drop (feeding r held piece room .taken) (piece ++ more))
 
 module _ (r : Recorder) (held piece more : List ℕ) (room : ℕ) where
@@ -286,8 +287,11 @@ module _ (r : Recorder) (held piece more : List ℕ) (room : ℕ) where
       let k : all .taken ≡ n .done = n .taken e ∙ (let z : 0 + n .done ≡ n .done = omega arith in z) in
       record { same = n .same ∙ rw (e, k) refl; stands = rw (e, k) (n .stands) }
   fed-by n false e =
+      let none : (k : ℕ) → rest (all .recorder) (all .held) (drop k (piece ++ more)) ≡ nothing = λ k. rest-stopped (all .recorder) (all .held) (drop k (piece ++ more)) e in
       record {
-        same = n .same ∙ ap (before (all .output)) (rest-stopped (all .recorder) (all .held) (drop (n .done) (piece ++ more)) e ∙ sym (rest-stopped (all .recorder) (all .held) (drop (cond (all .recorder .more) (all .taken) (length piece)) (piece ++ more)) e));
+        same =
+            n .same
+            ∙ ap (before (all .output)) (none (n .done) ∙ sym (none (cond (all .recorder .more) (all .taken) (length piece))));
         stands = rw e (stands-less (omega (arith, length-drop (n .done) (piece ++ more), length-drop (length piece) (piece ++ more), n .most)) (n .stands));
       }
 

@@ -53,7 +53,8 @@ module _ (v : Event) (l : List ℕ) (used : ℕ) (h : used + 18 ≤ length l) wh
   put-stored {m} e =
       let none : drop (length l - used) (drop used l) ≡ [] = drop-of-length-le (drop used l) {i = length l - used} (omega (arith, length-drop used l)) in
       let tail : drop (length (recordOf v)) room ≡ drop (used + length (recordOf v)) l = ap (drop (length (recordOf v))) (onward l used) ∙ drop-drop (length (recordOf v)) used l in
-      rw (none, append-nil, e, room-buffer v room enough, tail) (sym (sets-eq (recordOf v) l used (omega (arith, record-short v)) ∙ append-assoc (take used l) (recordOf v) (drop (used + length (recordOf v)) l)))
+      let whole = sets-eq (recordOf v) l used (omega (arith, record-short v)) ∙ append-assoc (take used l) (recordOf v) (drop (used + length (recordOf v)) l) in
+      rw (none, append-nil, e, room-buffer v room enough, tail) (sym whole)
 
 -- what a line makes, by what was read behind its mark
 pub made-by : (n records : ℕ) (text : List ℕ) (from : ℕ) {said : Line} (x : Line) → drop from text ≡ unmarked n text

@@ -131,7 +131,15 @@ returns-7 : tie.Need-returns-7
 unfolding submitWants
 returns-7 c =
     let p = c .before .before .put7 .ensures in
-    (rw (ne-eqb _ 2 (elseOf c .before .before .before .before .before .if1 .left), ne-eqb _ 3 (elseOf c .before .before .before .before .if2 .left), ne-eqb _ 4 (elseOf c .before .before .before .if3 .left), ne-eqb _ 5 (elseOf c .before .before .if4 .left), ne-eqb _ 6 (elseOf c .before .if5 .left), ne-eqb _ 7 (elseOf c .if6 .left)) (p .0), omega (arith, p .1))
+    let e6 = elseOf c in
+    let e5 = e6 .before in
+    let e4 = e5 .before in
+    let e3 = e4 .before in
+    let e2 = e3 .before in (
+      rw (ne-eqb _ 2 (e2 .before .if1 .left), ne-eqb _ 3 (e2 .if2 .left), ne-eqb _ 4 (e3 .if3 .left), ne-eqb _ 5 (e4 .if4 .left))
+          (rw (ne-eqb _ 6 (e5 .if5 .left), ne-eqb _ 7 (e6 .if6 .left)) (p .0)),
+      omega (arith, p .1),
+    )
 
 pub put-submit-wants-spec : {M : Type 1} → statement M
 put-submit-wants-spec =
