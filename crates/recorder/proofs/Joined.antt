@@ -94,12 +94,12 @@ made-long : (n records : ℕ) (l : List ℕ) → 65536 ≤ length l → made n r
 unfolding made
 made-long n records l h = rw (le-ltb (length l) 65536 h)
 
-made-right : (n records : ℕ) (l : List ℕ) → length l < 65536 → made n records l ≡ lineMade n records l
+pub made-right : (n records : ℕ) (l : List ℕ) → length l < 65536 → made n records l ≡ lineMade n records l
 unfolding made
 made-right n records l h = rw (lt-ltb (length l) 65536 h)
 
 -- lines whose first one makes m
-lines-made : (n records : ℕ) (l : List ℕ) (ls : List (List ℕ)) (m : Made) → made n records l ≡ m
+pub lines-made : (n records : ℕ) (l : List ℕ) (ls : List (List ℕ)) (m : Made) → made n records l ≡ m
     → recordLines n records (l ∷ ls) ≡ cond (m .more) (before (m .output) (recordLines (suc n) (records + m .records) ls)) (m .output)
 unfolding recordLines
 lines-made n records l ls m e = rw e

@@ -4,3 +4,4 @@ pub mod Recording
 pub mod Feeding
 pub mod Going
 pub mod Joined
+pub mod Meaning
