@@ -1,19 +1,17 @@
 -- A piece of the text part by part: what a part does, and what is left to feed gives what is left to do. Assumes nothing.
-use Prim.Native.Nat.{ℕ, zero, suc, _+_, _-_, _≤_, _<_}
+use Prim.Native.Nat.{ℕ, suc, _+_, _-_, _≤_, _<_}
 use mathlib.Core.Path.{_≡_, refl, sym, ap, _∙_}
-use mathlib.Core.Bool.{Bool, true, false, cond, _&&_}
+use mathlib.Core.Bool.{Bool, true, false, cond}
 use mathlib.Core.List.{List, [], _∷_, _++_, append-nil, append-assoc}
 use native.Mathlib.Omega.{arith}
 use native.Mathlib.Numerals.{add-one}
 use native.Mathlib.Nat.{zero-add}
 use borrow.Author.Tests.{lt-ltb, le-ltb, ltb-true, ltb-false}
-use lib.Dec.{leb, ltb, eqb}
-use lib.ListN.{length, take, drop, set, length-append, length-drop}
-use lib.Seq.{sets, sets-eq, length-sets, drop-drop, length-take-le, take-all}
+use lib.Dec.{ltb, eqb}
+use lib.ListN.{length, take, drop, set, length-append}
+use lib.Seq.{sets, sets-eq, length-sets}
 use Rattle.lists.specs.Lists.{indexOf, overFront}
-use Rattle.lists.proofs.Stores.{sets-append}
 use Rattle.text.specs.Digits.{Put}
-use Rattle.text.specs.Output.{Output, nothing, before}
 use Rattle.tokens.specs.declared.Sort.the-variants.{Newline}
 use Rattle.tokens.specs.Tokens.{stopsAt}
 use Rattle.tokens.specs.Walks.{part}
@@ -21,7 +19,7 @@ use Rattle.recorder.specs.declared.Recorder.{Recorder}
 use Rattle.recorder.specs.declared.Fed.{Fed}
 use Rattle.recorder.specs.declared.Step.{Step}
 use Rattle.recorder.specs.Recorder.{linesOn, longText, lineMade}
-use Rattle.recorder.specs.Machine.{stepOf, added, Feeding, lineFed, keptFed, longFed, partFed, after, goesOn, partsFed, takingAll, unfed, feeding, fedOf, closing, closedOf}
+use Rattle.recorder.specs.Machine.{stepOf, added, Feeding, lineFed, keptFed, longFed, partFed, after, goesOn, partsFed, fedOf, closing, closedOf}
 use Rattle.recorder.proofs.Recording.{line-quiet, line-short}
 
 -- a text stored from the front on

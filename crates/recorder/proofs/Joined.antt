@@ -1,21 +1,21 @@
 -- However a text is cut into pieces, and whatever room there is for records: the outputs one after the other are what `record` writes for the text. Assumes nothing.
 use Prim.Native.Nat.{ℕ, suc, _+_, _-_, _≤_, _<_}
-use mathlib.Core.Path.{_≡_, refl, sym, ap, ap₂, _∙_}
+use mathlib.Core.Path.{_≡_, refl, sym, ap, _∙_}
 use mathlib.Core.Bool.{Bool, true, false, cond, _&&_}
 use mathlib.Core.List.{List, [], _∷_, _++_, append-nil, append-assoc}
 use native.Mathlib.Omega.{arith}
 use native.Mathlib.Numerals.{add-one}
 use borrow.Author.Tests.{lt-ltb, le-ltb, le-leb, eqb-true}
-use lib.Dec.{leb, ltb, eqb}
+use lib.Dec.{eqb}
 use lib.ListN.{length, take, drop, length-append, length-drop}
 use lib.Seq.{sets, sets-eq, length-sets, length-take-le, take-at, drop-at, drop-drop}
 use Rattle.text.specs.Output.{Output, nothing, before}
 use Rattle.recorder.specs.declared.Recorder.{Recorder}
 use Rattle.recorder.specs.Recorder.{Made, linesOn, longText, refused, lineMade, made, recordLines, recordBytes}
-use Rattle.recorder.specs.Machine.{begun, added, Feeding, lineFed, partFed, after, goesOn, partsFed, takingAll, unfed, feeding, closing, rest}
+use Rattle.recorder.specs.Machine.{begun, added, Feeding, lineFed, partFed, after, goesOn, partsFed, unfed, feeding, closing, rest}
 use Rattle.recorder.proofs.Reading.{added-small}
 use Rattle.recorder.proofs.Recording.{line-few}
-use Rattle.recorder.proofs.Feeding.{Parted, long, line, kept, parted, part-few, part-all, part-some, part-held, parts-stop, parts-last, parts-more}
+use Rattle.recorder.proofs.Feeding.{Parted, long, line, kept, parted, part-all, part-some, parts-stop, parts-last, parts-more}
 
 before-assoc : (a b c : Output) → before (before a b) c ≡ before a (before b c)
 before-assoc a b c = rw (append-assoc (a .out) (b .out) (c .out), append-assoc (a .err) (b .err) (c .err))

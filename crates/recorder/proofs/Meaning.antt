@@ -6,12 +6,12 @@ use lib.ListN.{length, getD}
 use Rattle.lists.specs.Lists.{each}
 use Rattle.events.specs.declared.Event.{Event}
 use Rattle.events.specs.Records.{recordOf}
-use Rattle.text.specs.Output.{Output, nothing, before}
+use Rattle.text.specs.Output.{before}
 use Rattle.tokens.specs.Tokens.{words}
 use Rattle.lines.specs.declared.Line.{Line}
 use Rattle.lines.specs.declared.Line.the-variants.{Nothing, Says, Wrong}
 use Rattle.lines.specs.Lines.{bare, says}
-use Rattle.recorder.specs.Recorder.{unmarked, wrongText, refused, madeOf, lineMade, made, recordLines}
+use Rattle.recorder.specs.Recorder.{unmarked, wrongText, madeOf, lineMade, made, recordLines}
 use Rattle.recorder.proofs.Joined.{made-right, lines-made}
 
 made-says : (n records : ℕ) (l : List ℕ) (x : Line) → length l < 65536 → says (unmarked n l) ≡ x → made n records l ≡ madeOf n records (unmarked n l) x
@@ -21,7 +21,8 @@ made-says n records l x h e = made-right n records l h ∙ ap (madeOf n records 
 -- lines from line n on, none of them too long, that say these events, or nothing
 pub data Tells : ℕ → List (List ℕ) → List Event → Type 0 where
   none : {n : ℕ} → Tells n [] []
-  event : {n : ℕ} (l : List ℕ) (v : Event) {ls : List (List ℕ)} {vs : List Event} → length l < 65536 → says (unmarked n l) ≡ Says v → Tells (suc n) ls vs → Tells n (l ∷ ls) (v ∷ vs)
+  event : {n : ℕ} (l : List ℕ) (v : Event) {ls : List (List ℕ)} {vs : List Event} → length l < 65536 → says (unmarked n l) ≡ Says v
+      → Tells (suc n) ls vs → Tells n (l ∷ ls) (v ∷ vs)
   blank : {n : ℕ} (l : List ℕ) {ls : List (List ℕ)} {vs : List Event} → length l < 65536 → says (unmarked n l) ≡ Nothing → Tells (suc n) ls vs → Tells n (l ∷ ls) vs
 
 -- THEIR RECORDS, one behind the other, and no message

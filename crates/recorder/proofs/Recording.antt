@@ -1,16 +1,15 @@
 -- One line: its record fits, and what the code puts is what the line makes. Assumes nothing.
-use Prim.Native.Nat.{ℕ, _+_, _-_, _≤_, _<_}
+use Prim.Native.Nat.{ℕ, _+_, _-_, _≤_}
 use mathlib.Core.Path.{_≡_, refl, sym, ap, _∙_}
-use mathlib.Core.Bool.{true, false}
-use mathlib.Core.List.{List, [], _∷_, _++_, append-nil, append-assoc}
+use mathlib.Core.Bool.{true}
+use mathlib.Core.List.{List, [], _++_, append-nil, append-assoc}
 use native.Mathlib.Omega.{arith}
 use lib.ListN.{length, take, drop, length-drop, drop-of-length-le}
-use lib.Seq.{sets, sets-eq, take-all, drop-drop}
-use Rattle.lists.specs.Lists.{overFront}
+use lib.Seq.{sets, sets-eq, drop-drop}
 use Rattle.events.specs.declared.Event.{Event}
 use Rattle.events.specs.declared.Written.{Written}
 use Rattle.events.specs.declared.Written.the-variants.{NoRoom, Length}
-use Rattle.events.specs.Records.{recordOf, kindOf, bodyOf, written, writtenBuffer}
+use Rattle.events.specs.Records.{recordOf, bodyOf, written, writtenBuffer}
 use Rattle.events.proofs.Found.{Known, new-board, submit, clock, withdraw}
 use Rattle.events.proofs.Calls.{has-kind}
 use Rattle.events.proofs.Writing.{room-answer, room-buffer}
@@ -19,7 +18,7 @@ use Rattle.tokens.proofs.Walking.{onward}
 use Rattle.lines.specs.declared.Line.{Line}
 use Rattle.lines.specs.declared.Line.the-variants.{Nothing, Says, Wrong}
 use Rattle.lines.specs.Lines.{says}
-use Rattle.recorder.specs.Recorder.{Made, unmarked, madeOf, lineMade}
+use Rattle.recorder.specs.Recorder.{unmarked, madeOf, lineMade}
 
 -- NO RECORD is longer than 18 bytes
 body-short : {k n : ℕ} {f : List ℕ → Event} → Known k n f → n ≤ 17

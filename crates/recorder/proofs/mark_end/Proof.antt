@@ -1,5 +1,5 @@
 -- `recorder::mark_end` meets its contract. Assumes nothing.
-use mathlib.Core.Path.{_≡_, sym, _∙_}
+use mathlib.Core.Path.{sym, _∙_}
 use native.Mathlib.Omega.{arith}
 use Rattle.recorder.proofs.Reading.{unmarked-other, unmarked-short, unmarked-mark, unmarked-none}
 use borrow.Author.Needs.{needs}

@@ -1,5 +1,5 @@
 -- `recorder::put_quoted` meets its contract: no word, a long one, a short one. Assumes nothing.
-use mathlib.Core.Path.{_≡_, sym, _∙_}
+use mathlib.Core.Path.{sym, _∙_}
 use native.Mathlib.Omega.{arith}
 use Rattle.recorder.proofs.Showing.{quoted-none, quoted-short, quoted-long}
 use borrow.Author.Needs.{needs}

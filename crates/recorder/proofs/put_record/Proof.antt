@@ -1,6 +1,4 @@
 -- `recorder::put_record` meets its contract. Assumes nothing.
-use mathlib.Core.Path.{_≡_, sym, _∙_}
-use native.Mathlib.Omega.{arith}
 use Rattle.recorder.proofs.Recording.{put-length, put-room, put-stored}
 use borrow.Author.Needs.{needs}
 use Rattle.recorder.proofs.put_record.Statement.{statement}

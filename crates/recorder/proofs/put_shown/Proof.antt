@@ -1,9 +1,9 @@
 -- `recorder::put_shown` meets its contract: one byte more each turn. Assumes nothing.
 use Prim.Native.Nat.{_+_, _-_, _≤_}
-use mathlib.Core.Path.{_≡_, refl, ap, _∙_}
+use mathlib.Core.Path.{_≡_, refl, ap}
 use mathlib.Core.List.{map}
 use native.Mathlib.Omega.{arith}
-use lib.ListN.{length, take, set, getD, length-set}
+use lib.ListN.{length, take, set, length-set}
 use lib.Seq.{sets}
 use Rattle.recorder.specs.Recorder.{shownByte}
 use Rattle.recorder.proofs.Showing.{shown-more, shown-all}

@@ -1,5 +1,4 @@
 -- `recorder::shown` meets its contract. Assumes nothing.
-use mathlib.Core.Path.{_≡_, sym}
 use Rattle.recorder.proofs.shown.Statement.{statement}
 use Rattle.recorder.proofs.shown.Tie as tie
 
