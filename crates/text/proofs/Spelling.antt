@@ -7,7 +7,7 @@ use native.Mathlib.Numerals.{add-one}
 use lib.ListN.{length, take, set, getD, length-append}
 use lib.Seq.{sets, take-suc, length-take-le}
 use Rattle.lists.proofs.Stores.{sets-append, set-behind}
-use Rattle.text.specs.Text.{lineText}
+use Rattle.text.specs.Text.{decimal, lineText}
 use Rattle.text.specs.Digits.{lastDigits, Put}
 use Rattle.text.proofs.Counting.{last-length}
 
@@ -26,6 +26,10 @@ spell-one l at (suc i) rest h =
     ap (λ k. sets (set l (at + k) (48 + rest % 10)) at (lastDigits k (rest / 10))) less
     ∙ ap (λ k. sets (set l (at + k) (48 + rest % 10)) at (lastDigits i (rest / 10))) size
     ∙ set-behind l at (lastDigits i (rest / 10)) (48 + rest % 10)
+
+-- as many digits as a number has are its text
+pub spelled : {l m : List ℕ} {at : ℕ} (n x : ℕ) → lastDigits n x ≡ decimal x → m ≡ sets l at (lastDigits n x) → Put l at (decimal x) m (at + n)
+spelled {l} {m} {at} n x e f = record { stored = f ∙ ap (sets l at) e; place = ap (λ k. at + k) (sym (last-length n x) ∙ ap length e) }
 
 -- ONE TEXT BEHIND ANOTHER
 pub put-both : {l m n : List ℕ} {at p q : ℕ} {xs ys : List ℕ} → Put l at xs m p → Put m p ys n q → Put l at (xs ++ ys) n q

@@ -69,6 +69,53 @@ pub fn put_long(out: &mut [u8], at: usize, x: u64) -> usize
     at + n
 }
 
+// The same for every number of 64 bits, which has twenty digits at most.
+fn digits_wide(x: u64) -> usize
+    ensures { λ r. ⌜ (r ≤ 20) × (lastDigits r x ≡ decimal x) ⌝ }
+{
+    if x < 10000000000 {
+        return digits(x);
+    }
+    if x < 100000000000 {
+        return 11;
+    }
+    if x < 1000000000000 {
+        return 12;
+    }
+    if x < 10000000000000 {
+        return 13;
+    }
+    if x < 100000000000000 {
+        return 14;
+    }
+    if x < 1000000000000000 {
+        return 15;
+    }
+    if x < 10000000000000000 {
+        return 16;
+    }
+    if x < 100000000000000000 {
+        return 17;
+    }
+    if x < 1000000000000000000 {
+        return 18;
+    }
+    if x < 10000000000000000000 {
+        return 19;
+    }
+    20
+}
+
+pub fn put_wide(out: &mut [u8], at: usize, x: u64) -> usize
+    requires { ⌜ at + 20 ≤ length (now out) ⌝ }
+    ensures { λ r. ⌜ Put (now (out .entry)) at (decimal x) (now (out .exit)) r ⌝ }
+    ensures { λ r. ⌜ r ≤ at + 20 ⌝ }
+{
+    let n = digits_wide(x);
+    spell(out, at, n, x);
+    at + n
+}
+
 // The same for a number of 32 bits.
 pub fn put_decimal(out: &mut [u8], at: usize, x: u32) -> usize
     requires { ⌜ at + 10 ≤ length (now out) ⌝ }
