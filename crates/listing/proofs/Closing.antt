@@ -7,7 +7,7 @@ use mathlib.Core.Option.{none}
 use native.Mathlib.Nat.{zero-add}
 use native.Mathlib.Omega.{arith}
 use lib.ListN.{length}
-use lib.Seq.{sets}
+use lib.Seq.{sets, length-sets}
 use Rattle.lists.specs.Lists.{each, overFront}
 use Rattle.text.specs.Text.{ascii, decimalIn, decimal, lineText, rowText}
 use Rattle.text.specs.Digits.{Put, spaced}
@@ -32,7 +32,7 @@ next-number n {l} {m} {at} {p} h q =
     let e : n + 1 ≡ suc n = omega arith in
     record { stored = q ∙ ap (λ k. sets l at (decimal k)) e; place = h ∙ ap (λ k. at + length (decimal k)) e }
 
-pub put-nothing : (l : List ℕ) {xs : List ℕ} → xs ≡ [] → Put l 0 xs l 0 × (0 ≤ 128)
+pub put-nothing : (l : List ℕ) {xs : List ℕ} → xs ≡ [] → Put l 0 xs l 0 × (0 ≤ length l)
 put-nothing l e = (record { stored = ap (sets l 0) (sym e); place = ap (λ y. 0 + length y) (sym e) }, omega arith)
 
 no-lines : (w : Bool) → listingText w [] ≡ []
@@ -86,13 +86,15 @@ pub end-is : (n : ℕ) {e f : Ending} → e ≡ f → {l m : List ℕ} {p : ℕ}
 end-is n q {l} {m} {p} x = subst (λ y. Put l 0 (endText n y) m p) (sym q) x
 
 -- at the end
-pub closes : (l : Listing) (e : Ending) → e ≡ endOf (l .reader) → (out err : List ℕ) {m n : List ℕ} {p q : ℕ} → 128 ≤ length out → 128 ≤ length err
-    → Put out 0 (listingText (l .words) (lastLines (l .reader .number) e)) m p → Put err 0 (endText (l .reader .number) e) n q → p ≤ 128 → q ≤ 128
-    → (record { used = p; said = q } ≡ closed l) × ((m ≡ overFront (lastText l) out) × ((n ≡ overFront (saidText l) err) × ((p ≤ 128) × (q ≤ 128))))
+pub closes : (l : Listing) (e : Ending) → e ≡ endOf (l .reader) → (out err : List ℕ) {m n : List ℕ} {p q : ℕ}
+    → Put out 0 (listingText (l .words) (lastLines (l .reader .number) e)) m p → Put err 0 (endText (l .reader .number) e) n q → p ≤ length m → q ≤ length n
+    → (record { used = p; said = q } ≡ closed l) × ((m ≡ overFront (lastText l) out) × ((n ≡ overFront (saidText l) err) × ((p ≤ length m) × (q ≤ length n))))
 unfolding closed
-closes l e h out err {m} {n} {p} {q} o r x y f g =
+closes l e h out err {m} {n} {p} {q} x y f g =
     let a : Put out 0 (lastText l) m p = subst (λ z. Put out 0 (listingText (l .words) (lastLines (l .reader .number) z)) m p) h x in
     let b : Put err 0 (saidText l) n q = subst (λ z. Put err 0 (endText (l .reader .number) z) n q) h y in
+    let o : length m ≡ length out = ap length (a .stored) ∙ length-sets out 0 (lastText l) in
+    let r : length n ≡ length err = ap length (b .stored) ∙ length-sets err 0 (saidText l) in
     (
       (λ i. record { used = (a .place ∙ zero-add (length (lastText l))) i; said = (b .place ∙ zero-add (length (saidText l))) i }),
       (rows-front (lastText l) a (omega arith), (rows-front (saidText l) b (omega arith), (f, g))),

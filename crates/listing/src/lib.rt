@@ -129,7 +129,7 @@ pub fn feed(l: Listing, piece: &[u8], out: &mut [u8]) -> Listed
 // The line of a record that is cut short: its number may need more than 32 bits.
 fn put_cut(out: &mut [u8; 128], words: bool, number: u32, kind: u8) -> usize
     ensures { λ r. ⌜ Put (now (out .entry)) 0 (listingText words (stopLine (suc number) kind 15 ∷ [])) (now (out .exit)) r ⌝ }
-    ensures { λ r. ⌜ r ≤ 128 ⌝ }
+    ensures { λ r. ⌜ r ≤ length (now (out .exit)) ⌝ }
 {
     let after = text::put_long(out, 0, number as u64 + 1);
     let from = text::put_bytes(out, after, b" ");
@@ -144,7 +144,7 @@ fn put_cut(out: &mut [u8; 128], words: bool, number: u32, kind: u8) -> usize
 // "After 15 .. it prints that line"; a 16 has had its own.
 fn put_last(out: &mut [u8; 128], words: bool, number: u32, end: Ending) -> usize
     ensures { λ r. ⌜ Put (now (out .entry)) 0 (listingText words (lastLines number end)) (now (out .exit)) r ⌝ }
-    ensures { λ r. ⌜ r ≤ 128 ⌝ }
+    ensures { λ r. ⌜ r ≤ length (now (out .exit)) ⌝ }
 {
     match end {
         Ending::NotYet => 0,
@@ -160,7 +160,7 @@ fn put_last(out: &mut [u8; 128], words: bool, number: u32, end: Ending) -> usize
 fn put_stop(err: &mut [u8; 128], number: u32, kind: u8, tail: &[u8]) -> usize
     requires { ⌜ length (now tail) ≤ 60 ⌝ }
     ensures { λ r. ⌜ Put (now (err .entry)) 0 (stopText number kind (now (tail .entry))) (now (err .exit)) r ⌝ }
-    ensures { λ r. ⌜ r ≤ 128 ⌝ }
+    ensures { λ r. ⌜ r ≤ length (now (err .exit)) ⌝ }
 {
     let event_at = text::put_bytes(err, 0, b"plan: event ");
     let after_event = text::put_long(err, event_at, number as u64 + 1);
@@ -172,7 +172,7 @@ fn put_stop(err: &mut [u8; 128], number: u32, kind: u8, tail: &[u8]) -> usize
 // "a message on standard error after 15, 16 and the billionth event"
 fn put_end(err: &mut [u8; 128], number: u32, end: Ending) -> usize
     ensures { λ r. ⌜ Put (now (err .entry)) 0 (endText number end) (now (err .exit)) r ⌝ }
-    ensures { λ r. ⌜ r ≤ 128 ⌝ }
+    ensures { λ r. ⌜ r ≤ length (now (err .exit)) ⌝ }
 {
     match end {
         Ending::NotYet => 0,
@@ -199,7 +199,7 @@ pub fn close(l: Listing, out: &mut [u8; 128], err: &mut [u8; 128]) -> Closed
     ensures { λ r. ⌜ r ≡ closed l ⌝ }
     ensures { λ r. ⌜ now (out .exit) ≡ overFront (lastText l) (now (out .entry)) ⌝ }
     ensures { λ r. ⌜ now (err .exit) ≡ overFront (saidText l) (now (err .entry)) ⌝ }
-    ensures { λ r. ⌜ (r .used ≤ 128) × (r .said ≤ 128) ⌝ }
+    ensures { λ r. ⌜ (r .used ≤ length (now (out .exit))) × (r .said ≤ length (now (err .exit))) ⌝ }
 {
     let reader = l.reader;
     let end = reader::close(reader);

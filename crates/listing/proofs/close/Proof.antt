@@ -1,5 +1,4 @@
 -- `listing::close` meets its contract. Assumes nothing.
-use native.Mathlib.Omega.{arith}
 use Rattle.listing.proofs.Closing.{closes}
 use borrow.Author.Needs.{needs}
 use Rattle.listing.proofs.close.Statement.{statement}
@@ -19,7 +18,7 @@ returns c =
     let p = c .before .before in
     let d = p .before .before in
     let a = d .before .before .args in
-    closes (a .l) (d .close .result) (d .close .ensures) (a .out .now) (a .err .now) (omega (arith, a .out .good)) (omega (arith, a .err .good)) (p .put-last .ensures .0) (c .put-end .ensures .0)
+    closes (a .l) (d .close .result) (d .close .ensures) (a .out .now) (a .err .now) (p .put-last .ensures .0) (c .put-end .ensures .0)
     (p .put-last .ensures .1) (c .put-end .ensures .1)
 
 pub close-spec : {M : Type 1} → statement M
