@@ -4,3 +4,4 @@ pub mod Hearing
 pub mod Going
 pub mod Cuts
 pub mod Bounds
+pub mod Counts

@@ -170,3 +170,18 @@ story-strange left b n bytes k e = rw (e, storyFrom)
 pub story-end : (left : ℕ) (b : State) (n : ℕ) (bytes : List ℕ) → readFrom bytes ≡ End → storyFrom (suc left) b n bytes ≡ endsIn [] b AtEnd
 unfolding storyFrom
 story-end left b n bytes e = rw (e, storyFrom)
+
+-- an event for each line of a run
+pub run-events : (room : ℕ) (b : State) (n : ℕ) (bytes : List ℕ) → length (ranFrom room b n bytes .lines) ≡ length (ranFrom room b n bytes .events)
+unfolding ranFrom
+run-events zero b n bytes = refl
+run-events (suc room) b n bytes = go (λ c m ws. run-events room c m ws) (readFrom bytes) refl
+  where
+    Even : Run → Type 0
+    Even x = length (x .lines) ≡ length (x .events)
+
+    go : ((c : State) (m : ℕ) (ws : List ℕ) → Even (ranFrom room c m ws)) → (r : Reading) → readFrom bytes ≡ r → Even (ranFrom (suc room) b n bytes)
+    go next End e = rw (e, ranFrom)
+    go next (CutShort k) e = rw (e, ranFrom)
+    go next (Unknown k) e = rw (e, ranFrom)
+    go next (Got v size) e = subst Even (sym (ran-got room b n bytes v size e)) (ap suc (next (outcome b v .state) (suc n) (drop size bytes)))
