@@ -94,8 +94,7 @@ closes l e h out err {m} {n} {p} {q} x y f g =
     let a : Put out 0 (lastText l) m p = subst (λ z. Put out 0 (listingText (l .words) (lastLines (l .reader .number) z)) m p) h x in
     let b : Put err 0 (saidText l) n q = subst (λ z. Put err 0 (endText (l .reader .number) z) n q) h y in
     let o : length m ≡ length out = ap length (a .stored) ∙ length-sets out 0 (lastText l) in
-    let r : length n ≡ length err = ap length (b .stored) ∙ length-sets err 0 (saidText l) in
-    (
+    let r : length n ≡ length err = ap length (b .stored) ∙ length-sets err 0 (saidText l) in (
       (λ i. record { used = (a .place ∙ zero-add (length (lastText l))) i; said = (b .place ∙ zero-add (length (saidText l))) i }),
       (rows-front (lastText l) a (omega arith), (rows-front (saidText l) b (omega arith), (f, g))),
     )

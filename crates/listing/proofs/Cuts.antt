@@ -73,12 +73,12 @@ lists-whole w {bytes} {text} {last} way =
     let e : story bytes ≡ told (r .lines) (r .events) (closing (last .reader)) = reads-whole (r .reads) in
     let n : last .reader .number ≡ length (r .events) = reads-number (r .reads) ∙ (let y : firstReader .number + length (r .events) ≡ length (r .events) = omega (arith, first-number) in y) in
     let all : text ++ lastText last ≡ listingText w (story bytes .lines) =
-        ap₂ (λ t b. t ++ listingText b (lastLines (last .reader .number) (endOf (last .reader)))) (r .written) (r .words)
-        ∙ sym (text-append w (r .lines) (lastLines (last .reader .number) (endOf (last .reader))))
-        ∙ ap (λ (s : Story). listingText w (s .lines)) (sym e) in
+    ap₂ (λ t b. t ++ listingText b (lastLines (last .reader .number) (endOf (last .reader)))) (r .written) (r .words)
+    ∙ sym (text-append w (r .lines) (lastLines (last .reader .number) (endOf (last .reader))))
+    ∙ ap (λ (s : Story). listingText w (s .lines)) (sym e) in
     let count : length (story bytes .events) ≡ last .reader .number = ap (λ (s : Story). length (s .events)) e ∙ ap length (no-more (r .events)) ∙ sym n in
     let said : saidText last ≡ endText (length (story bytes .events)) (story bytes .end) =
-        ap₂ endText (sym count) (ap (λ (s : Story). s .end) (sym e)) in
+    ap₂ endText (sym count) (ap (λ (s : Story). s .end) (sym e)) in
     λ i. record { out = headerText w ++ all i; err = said i }
   where
     no-more : (vs : List Event) → vs ++ [] ≡ vs

@@ -7,7 +7,7 @@ ghost use lib.ListN.{length};
 ghost use Rattle.lists.specs.Lists.{overFront};
 ghost use Rattle.text.specs.Digits.{Put};
 ghost use Rattle.session.specs.Recording.{stopLine};
-ghost use Rattle.reader.specs.Reader.{sourceOf, lastLines};
+ghost use Rattle.reader.specs.Reader.{sourceOf, open?, lastLines};
 ghost use Rattle.listing.specs.Code.{textOf};
 ghost use Rattle.listing.specs.Listing.{headerText, listingText, stopText, endText, firstListing, linesIn, listed, listedText, lastText, saidText, closed};
 use reader::Reader;
@@ -85,6 +85,7 @@ fn put_lines(
     requires { ⌜ (count * cond words 128 66 ≤ length (now out)) × (count * 6 ≤ length (now numbers)) ⌝ }
     ensures { λ t. ⌜ t ≡ length (textOf words count (now (numbers .entry)) (sourceOf r (now (piece .entry)))) ⌝ }
     ensures { λ t. ⌜ now (out .exit) ≡ overFront (textOf words count (now (numbers .entry)) (sourceOf r (now (piece .entry)))) (now (out .entry)) ⌝ }
+    ensures { λ t. ⌜ t ≤ length (now (out .exit)) ⌝ }
 {
     if !words {
         return text::put_table(out, numbers, count, 6);
@@ -98,6 +99,15 @@ fn put_lines(
     worded::put_rows(out, numbers, count, &bytes[0..size])
 }
 
+// Whether more of the recording can give a line.
+pub fn goes_on(l: Listing) -> bool
+    ensures { λ r. ⌜ r ≡ open? (l .reader .end) ⌝ }
+{
+    let reader = l.reader;
+    let end = reader.end;
+    reader::is_open(end)
+}
+
 // Room for the numbers of 992 lines.
 fn no_numbers() -> [u32; 5952]
     ensures { λ r. ⌜ 5952 ≡ length r ⌝ }
@@ -109,6 +119,7 @@ fn no_numbers() -> [u32; 5952]
 pub fn feed(l: Listing, piece: &[u8], out: &mut [u8]) -> Listed
     ensures { λ r. ⌜ r ≡ listed l (now (piece .entry)) (length (now (out .entry))) ⌝ }
     ensures { λ r. ⌜ now (out .exit) ≡ listedText l (now (piece .entry)) (now (out .entry)) ⌝ }
+    ensures { λ r. ⌜ (r .taken ≤ length (now (piece .entry))) × (r .used ≤ length (now (out .exit))) ⌝ }
 {
     let mut numbers = no_numbers();
     let reader = l.reader;

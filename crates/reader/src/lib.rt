@@ -239,7 +239,8 @@ fn pass(r: Reader, piece: &[u8], end: Ending) -> Fed
     }
 }
 
-fn is_open(end: Ending) -> bool
+// Whether the recording has not ended yet.
+pub fn is_open(end: Ending) -> bool
     ensures { λ r. ⌜ r ≡ open? end ⌝ }
 {
     match end {

@@ -75,8 +75,9 @@ returns c =
     let f = p .before .before .before .before in
     let a = startOf f .args in
     let n = numbersOf f .no-numbers in
-    feeds (a .l) (a .piece .now) (a .out .now) (n .result) (6 * linesOf f .lines-in .result) (ap (λ k. 6 * k) (linesOf f .lines-in .ensures)) (sym (n .ensures))
-    (f .feed .result) (f .feed .ensures .0) (f .feed .ensures .1 .0) (p .put-lines .ensures .0) (p .put-lines .ensures .1)
+    let x = feeds (a .l) (a .piece .now) (a .out .now) (n .result) (6 * linesOf f .lines-in .result) (ap (λ k. 6 * k) (linesOf f .lines-in .ensures)) (sym (n .ensures))
+    (f .feed .result) (f .feed .ensures .0) (f .feed .ensures .1 .0) (p .put-lines .ensures .0) (p .put-lines .ensures .1 .0) in
+    (x .0, (x .1, (f .feed .ensures .1 .1 .1, p .put-lines .ensures .1 .1)))
 
 pub feed-spec : {M : Type 1} → statement M
 feed-spec =

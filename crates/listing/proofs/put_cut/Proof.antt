@@ -29,10 +29,9 @@ returns c =
     let t = c .before .before .before in
     let b = t .before in
     let n = b .before .before .before in
-    let a = n .before .before .args in
-    (
+    let a = n .before .before .args in (
       cut-plain (a .words) (a .number) (a .kind) (not-true _ (t .if1 .taken)) (next-number (a .number) (n .put-long .ensures .0) (n .put-long .ensures .1 .0))
-      (put-text (b .put-bytes .ensures .0) (b .put-bytes .ensures .1)) (c .put-words .ensures .0),
+          (put-text (b .put-bytes .ensures .0) (b .put-bytes .ensures .1)) (c .put-words .ensures .0),
       omega (arith, n .put-long .ensures .1 .1, b .put-bytes .ensures .0, c .put-words .ensures .1),
     )
 
@@ -54,10 +53,9 @@ returns-2 c =
     let l = p .before .before .before in
     let b = l .before in
     let n = b .before .before .before in
-    let a = n .before .before .args in
-    (
+    let a = n .before .before .args in (
       cut-worded (a .words) (a .number) (a .kind) (not-false _ (l .if1 .left)) (next-number (a .number) (n .put-long .ensures .0) (n .put-long .ensures .1 .0))
-      (put-text (b .put-bytes .ensures .0) (b .put-bytes .ensures .1)) (p .put-spaced .ensures .0) (put-text (c .put-bytes2 .ensures .0) (c .put-bytes2 .ensures .1)),
+          (put-text (b .put-bytes .ensures .0) (b .put-bytes .ensures .1)) (p .put-spaced .ensures .0) (put-text (c .put-bytes2 .ensures .0) (c .put-bytes2 .ensures .1)),
       omega (arith, n .put-long .ensures .1 .1, b .put-bytes .ensures .0, p .put-spaced .ensures .1, c .put-bytes2 .ensures .0),
     )
 

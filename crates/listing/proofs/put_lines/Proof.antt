@@ -29,6 +29,17 @@ held-size s = search needs
 window-size : (c : tie.After-window) → length (c .window .result .bytes) ≡ 18
 window-size c = search needs
 
+-- the buffer keeps its room
+table-room : (c : tie.After-put-table) → length (c .put-table .last .0) ≡ length (startOf (c .before .before .before) .args .out .now)
+table-room c = search needs
+
+rows-room : (c : tie.After-put-rows) → length (c .put-rows .last .0) ≡ length (startOf (c .before .before .before .before .before) .args .out .now)
+rows-room c = search needs
+
+rows-room-2 : (c : tie.After-put-rows2)
+    → length (c .put-rows2 .last .0) ≡ length (startOf (c .before .before .before .before .before .before .before .before .before) .args .out .now)
+rows-room-2 c = search needs
+
 put-table-requires : tie.Need-put-table-requires
 put-table-requires c κs =
     let t = c .before in
@@ -44,7 +55,8 @@ returns c =
     let a = startOf (t .before) .args in
     let e = sym (text-plain (a .words) (a .count) (a .numbers .now) _ (is-plain t)) in
     let p = c .before .before .put-table .ensures in
-    (p .0 ∙ ap length e, p .1 .0 ∙ ap (λ x. overFront x (a .out .now)) e)
+    let room = room-plain (a .words) (a .count) _ (is-plain t) (startOf (t .before) .pre .0) in
+    (p .0 ∙ ap length e, (p .1 .0 ∙ ap (λ x. overFront x (a .out .now)) e, omega (arith, p .1 .1, room, table-room (c .before .before))))
 
 put-rows-requires : tie.Need-put-rows-requires
 put-rows-requires c κs =
@@ -64,7 +76,8 @@ returns-2 c =
     let nothing : length (heldOf (a .r)) ≡ 0 = omega (arith, t .if2 .taken, length-take (a .r .size) (a .r .held)) in
     let e = sym (text-words (a .words) (a .count) (a .numbers .now) _ (in-words l) ∙ ap (wordedRows (a .count) (a .numbers .now)) (source-alone (a .r) (a .piece .now) nothing)) in
     let p = c .before .before .put-rows .ensures in
-    (p .0 ∙ ap length e, p .1 .0 ∙ ap (λ x. overFront x (a .out .now)) e)
+    let room = room-words (a .words) (a .count) _ (in-words l) (s .pre .0) in
+    (p .0 ∙ ap length e, (p .1 .0 ∙ ap (λ x. overFront x (a .out .now)) e, omega (arith, p .1 .1, room, rows-room (c .before .before))))
 
 window-requires : tie.Need-window-requires
 window-requires c κs = search needs
@@ -99,7 +112,8 @@ returns-3 c =
     let bytes = ap (λ n. take n (w .window .result .bytes)) whole ∙ w .window .ensures .1 ∙ sym (source-behind (a .r) (a .piece .now) (λ q. e2 .if2 .left (omega (arith, q, more)))) in
     let e = ap (wordedRows (a .count) (a .numbers .now)) bytes ∙ sym (text-words (a .words) (a .count) (a .numbers .now) _ (in-words l)) in
     let p = c .before .before .put-rows2 .ensures in
-    (p .0 ∙ ap length e, p .1 .0 ∙ ap (λ x. overFront x (a .out .now)) e)
+    let room = room-words (a .words) (a .count) _ (in-words l) (s .pre .0) in
+    (p .0 ∙ ap length e, (p .1 .0 ∙ ap (λ x. overFront x (a .out .now)) e, omega (arith, p .1 .1, room, rows-room-2 (c .before .before))))
 
 pub put-lines-spec : {M : Type 1} → statement M
 put-lines-spec =

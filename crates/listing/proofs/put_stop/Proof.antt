@@ -35,11 +35,10 @@ returns c =
     let k = d .before .before in
     let n = k .before .before .before in
     let e = n .before .before in
-    let a = e .before .before .before .before .args in
-    (
+    let a = e .before .before .before .before .args in (
       stop-put (a .number) (a .kind) (a .tail .now) (put-text (e .put-bytes .ensures .0) (e .put-bytes .ensures .1))
-      (next-number (a .number) (n .put-long .ensures .0) (n .put-long .ensures .1 .0)) (put-text (k .put-bytes2 .ensures .0) (k .put-bytes2 .ensures .1))
-      (put-text (d .put-decimal .ensures .0) (d .put-decimal .ensures .1 .0)) (put-text (c .put-bytes3 .ensures .0) (c .put-bytes3 .ensures .1)),
+          (next-number (a .number) (n .put-long .ensures .0) (n .put-long .ensures .1 .0)) (put-text (k .put-bytes2 .ensures .0) (k .put-bytes2 .ensures .1))
+          (put-text (d .put-decimal .ensures .0) (d .put-decimal .ensures .1 .0)) (put-text (c .put-bytes3 .ensures .0) (c .put-bytes3 .ensures .1)),
       omega (arith, e .put-bytes .ensures .0, n .put-long .ensures .1 .1, k .put-bytes2 .ensures .0, d .put-decimal .ensures .1 .1, c .put-bytes3 .ensures .0),
     )
 
