@@ -1,194 +1,193 @@
+-- `plan::main` meets its contract: what it hands on lies in its buffers. Assumes nothing.
+use Prim.Native.Nat.{_+_, _≤_}
+use mathlib.Core.Path.{_≡_, ap}
+use native.Mathlib.Omega.{arith}
+use lib.ListN.{length}
+use lib.Seq.{length-slice}
+use borrow.Author.Needs.{needs}
 use Rattle.plan.proofs.main.Statement.{statement}
 use Rattle.plan.proofs.main.Tie as tie
-use Rattle.plan.proofs.main.Reads as reads
-use Rattle.plan.proofs.main.Lts as lts
-use Rattle.io.proofs.count.Reads as count-reads
-use Rattle.io.proofs.large_buffer.Reads as large-buffer-reads
-use Rattle.libc.proofs.read.Reads as read-reads
-use Rattle.listing.proofs.begin.Reads as begin-reads
-use Rattle.listing.proofs.close.Reads as close-reads
-use Rattle.listing.proofs.feed.Reads as feed-reads
-use Rattle.listing.proofs.goes_on.Reads as goes-on-reads
-use Rattle.listing.proofs.put_header.Reads as put-header-reads
-use Rattle.os.proofs.fail.Reads as fail-reads
-use Rattle.plan.proofs.write.Reads as write-reads
-use Rattle.streams.proofs.turns_left.Reads as turns-left-reads
 
 abbrev Inv-loop : tie.InvT-loop
-Inv-loop piece₀ text₀ line message l₀ size got₀ from₀ to₀ turns₀ t19 t20 piece text l got from to turns =
-    ?
+Inv-loop fd input₀ piece₀ text₀ size done l₀ turns₀ t27 t28 t29 t30 input piece text l turns =
+    (65536 ≡ length piece) × (65536 ≡ length text) × (input .from ≤ input .to) × (input .to ≤ 65536) × (length t27 ≡ 6) × (length t28 ≡ 6) × (length t29 ≡ 0) × (length t30 ≡ 6)
 
 abbrev μ-loop : tie.MeasureT-loop
-μ-loop piece₀ text₀ line message l₀ size got₀ from₀ to₀ turns₀ t19 t20 piece text l got from to turns =
-    ?
+μ-loop fd input₀ piece₀ text₀ size done l₀ turns₀ t27 t28 t29 t30 input piece text l turns = turns
 
--- src/main.rt:12:21
-large-buffer-requires : tie.Need-large-buffer-requires Inv-loop μ-loop
-large-buffer-requires c κs = ?
+ordered-requires : tie.Need-ordered-requires Inv-loop μ-loop
+ordered-requires c κs = search needs
 
--- src/main.rt:13:20
-large-buffer-requires-2 : tie.Need-large-buffer-requires-2 Inv-loop μ-loop
-large-buffer-requires-2 c κs = ?
+buffer-requires : tie.Need-buffer-requires Inv-loop μ-loop
+buffer-requires c κs = search needs
 
--- src/main.rt:17:9
-begin-requires : tie.Need-begin-requires Inv-loop μ-loop
-begin-requires c κs = ?
+put-plan-requires : tie.Need-put-plan-requires Inv-loop μ-loop
+put-plan-requires c κs = search needs
 
--- src/main.rt:18:9
-put-header-requires : tie.Need-put-header-requires Inv-loop μ-loop
-put-header-requires c κs = ?
+slice-aggregate-tell : tie.Need-slice-aggregate-tell Inv-loop μ-loop
+slice-aggregate-tell c = search needs
 
--- src/main.rt:22:47
-sub-write : tie.Need-sub-write Inv-loop μ-loop
-sub-write c = ?
+sub-tell : tie.Need-sub-tell Inv-loop μ-loop
+sub-tell c = search needs
 
--- src/main.rt:22:47
-part-write-start : tie.Need-part-write-start Inv-loop μ-loop
-part-write-start c = ?
+part-tell-start : tie.Need-part-tell-start Inv-loop μ-loop
+part-tell-start c = search needs
 
--- src/main.rt:22:47
-part-write-end : tie.Need-part-write-end Inv-loop μ-loop
-part-write-end c = ?
+part-tell-end : tie.Need-part-tell-end Inv-loop μ-loop
+part-tell-end c = search needs
 
--- src/main.rt:22:65
-slice-aggregate-write : tie.Need-slice-aggregate-write Inv-loop μ-loop
-slice-aggregate-write c = ?
+tell-requires : tie.Need-tell-requires Inv-loop μ-loop
+tell-requires c κs = search needs
 
--- src/main.rt:22:41
-write-requires : tie.Need-write-requires Inv-loop μ-loop
-write-requires c κs = ?
-
--- src/main.rt:22:9
-turns-left-requires : tie.Need-turns-left-requires Inv-loop μ-loop
-turns-left-requires c κs = ?
-
--- src/main.rt:23:5
-loop-holds : tie.Need-loop-holds Inv-loop μ-loop
-loop-holds c = ?
-
--- src/main.rt:25:50
-slice-aggregate-read : tie.Need-slice-aggregate-read Inv-loop μ-loop
-slice-aggregate-read c = ?
-
--- src/main.rt:25:13
-read-requires : tie.Need-read-requires Inv-loop μ-loop
-read-requires c κs = ?
-
--- src/main.rt:27:33
-slice-aggregate-count : tie.Need-slice-aggregate-count Inv-loop μ-loop
-slice-aggregate-count c = ?
-
--- src/main.rt:27:13
-count-requires : tie.Need-count-requires Inv-loop μ-loop
-count-requires c κs = ?
-
--- src/main.rt:29:36
-sub-feed : tie.Need-sub-feed Inv-loop μ-loop
-sub-feed c = ?
-
--- src/main.rt:29:36
-part-feed-start : tie.Need-part-feed-start Inv-loop μ-loop
-part-feed-start c = ?
-
--- src/main.rt:29:36
-part-feed-end : tie.Need-part-feed-end Inv-loop μ-loop
-part-feed-end c = ?
-
--- src/main.rt:29:54
-slice-aggregate-feed : tie.Need-slice-aggregate-feed Inv-loop μ-loop
-slice-aggregate-feed c = ?
-
--- src/main.rt:29:13
-feed-requires : tie.Need-feed-requires Inv-loop μ-loop
-feed-requires c κs = ?
-
--- src/main.rt:31:26
-sub-write-2 : tie.Need-sub-write-2 Inv-loop μ-loop
-sub-write-2 c = ?
-
--- src/main.rt:31:26
-part-write-start-2 : tie.Need-part-write-start-2 Inv-loop μ-loop
-part-write-start-2 c = ?
-
--- src/main.rt:31:26
-part-write-end-2 : tie.Need-part-write-end-2 Inv-loop μ-loop
-part-write-end-2 c = ?
-
--- src/main.rt:31:42
-slice-aggregate-write-2 : tie.Need-slice-aggregate-write-2 Inv-loop μ-loop
-slice-aggregate-write-2 c = ?
-
--- src/main.rt:31:13
-write-requires-2 : tie.Need-write-requires-2 Inv-loop μ-loop
-write-requires-2 c κs = ?
-
--- src/main.rt:33:9
-add-from : tie.Need-add-from Inv-loop μ-loop
-add-from c = ?
-
--- src/main.rt:34:44
-goes-on-requires : tie.Need-goes-on-requires Inv-loop μ-loop
-goes-on-requires c κs = ?
-
--- src/main.rt:34:9
-turns-left-requires-2 : tie.Need-turns-left-requires-2 Inv-loop μ-loop
-turns-left-requires-2 c κs = ?
-
--- src/main.rt:23:5
-loop-less : tie.Need-loop-less Inv-loop μ-loop
-loop-less c = ?
-
--- src/main.rt:23:5
-loop-again : tie.Need-loop-again Inv-loop μ-loop
-loop-again c = ?
-
--- src/main.rt:37:18
-slice-aggregate-fail : tie.Need-slice-aggregate-fail Inv-loop μ-loop
-slice-aggregate-fail c = ?
-
--- src/main.rt:37:9
-fail-requires : tie.Need-fail-requires Inv-loop μ-loop
-fail-requires c κs = ?
-
--- src/main.rt:38:9
 returns : tie.Need-returns Inv-loop μ-loop
-returns c = ?
+returns c = search needs
 
--- src/main.rt:40:9
-close-requires : tie.Need-close-requires Inv-loop μ-loop
-close-requires c κs = ?
+slice-aggregate-open : tie.Need-slice-aggregate-open Inv-loop μ-loop
+slice-aggregate-open c = search needs
 
--- src/main.rt:43:11
-sub-write-3 : tie.Need-sub-write-3 Inv-loop μ-loop
-sub-write-3 c = ?
+open-requires : tie.Need-open-requires Inv-loop μ-loop
+open-requires c κs = search needs
 
--- src/main.rt:43:11
-part-write-start-3 : tie.Need-part-write-start-3 Inv-loop μ-loop
-part-write-start-3 c = ?
-
--- src/main.rt:43:11
-part-write-end-3 : tie.Need-part-write-end-3 Inv-loop μ-loop
-part-write-end-3 c = ?
-
--- src/main.rt:43:27
-sub-write-4 : tie.Need-sub-write-4 Inv-loop μ-loop
-sub-write-4 c = ?
-
--- src/main.rt:43:27
-part-write-start-4 : tie.Need-part-write-start-4 Inv-loop μ-loop
-part-write-start-4 c = ?
-
--- src/main.rt:43:27
-part-write-end-4 : tie.Need-part-write-end-4 Inv-loop μ-loop
-part-write-end-4 c = ?
-
--- src/main.rt:43:5
-write-requires-3 : tie.Need-write-requires-3 Inv-loop μ-loop
-write-requires-3 c κs = ?
-
--- src/main.rt:11:1
 returns-2 : tie.Need-returns-2 Inv-loop μ-loop
-returns-2 c = ?
+returns-2 c = search needs
+
+input-of-requires : tie.Need-input-of-requires Inv-loop μ-loop
+input-of-requires c κs = search needs
+
+large-buffer-requires : tie.Need-large-buffer-requires Inv-loop μ-loop
+large-buffer-requires c κs = search needs
+
+large-buffer-requires-2 : tie.Need-large-buffer-requires-2 Inv-loop μ-loop
+large-buffer-requires-2 c κs = search needs
+
+put-header-requires : tie.Need-put-header-requires Inv-loop μ-loop
+put-header-requires c κs = search needs
+
+slice-aggregate-write : tie.Need-slice-aggregate-write Inv-loop μ-loop
+slice-aggregate-write c = search needs
+
+sub-write : tie.Need-sub-write Inv-loop μ-loop
+sub-write c = search needs
+
+part-write-start : tie.Need-part-write-start Inv-loop μ-loop
+part-write-start c = search needs
+
+part-write-end : tie.Need-part-write-end Inv-loop μ-loop
+part-write-end c = search needs
+
+slice-aggregate-write-2 : tie.Need-slice-aggregate-write-2 Inv-loop μ-loop
+slice-aggregate-write-2 c = search needs
+
+write-requires : tie.Need-write-requires Inv-loop μ-loop
+write-requires c κs = search needs
+
+begin-requires : tie.Need-begin-requires Inv-loop μ-loop
+begin-requires c κs = search needs
+
+turns-left-requires : tie.Need-turns-left-requires Inv-loop μ-loop
+turns-left-requires c κs = search needs
+
+loop-holds : tie.Need-loop-holds Inv-loop μ-loop
+loop-holds c = search needs
+
+slice-aggregate-fill : tie.Need-slice-aggregate-fill Inv-loop μ-loop
+slice-aggregate-fill c = search needs
+
+slice-aggregate-fill-2 : tie.Need-slice-aggregate-fill-2 Inv-loop μ-loop
+slice-aggregate-fill-2 c = search needs
+
+fill-requires : tie.Need-fill-requires Inv-loop μ-loop
+fill-requires c κs = search needs
+
+sub-feed : tie.Need-sub-feed Inv-loop μ-loop
+sub-feed c = search needs
+
+part-feed-start : tie.Need-part-feed-start Inv-loop μ-loop
+part-feed-start c = search needs
+
+part-feed-end : tie.Need-part-feed-end Inv-loop μ-loop
+part-feed-end c = search needs
+
+slice-aggregate-feed : tie.Need-slice-aggregate-feed Inv-loop μ-loop
+slice-aggregate-feed c = search needs
+
+feed-requires : tie.Need-feed-requires Inv-loop μ-loop
+feed-requires c κs = search needs
+
+slice-aggregate-write-3 : tie.Need-slice-aggregate-write-3 Inv-loop μ-loop
+slice-aggregate-write-3 c = search needs
+
+sub-write-2 : tie.Need-sub-write-2 Inv-loop μ-loop
+sub-write-2 c = search needs
+
+part-write-start-2 : tie.Need-part-write-start-2 Inv-loop μ-loop
+part-write-start-2 c = search needs
+
+part-write-end-2 : tie.Need-part-write-end-2 Inv-loop μ-loop
+part-write-end-2 c = search needs
+
+slice-aggregate-write-4 : tie.Need-slice-aggregate-write-4 Inv-loop μ-loop
+slice-aggregate-write-4 c = search needs
+
+write-requires-2 : tie.Need-write-requires-2 Inv-loop μ-loop
+write-requires-2 c κs = search needs
+
+pass-requires : tie.Need-pass-requires Inv-loop μ-loop
+pass-requires c κs = search needs
+
+goes-on-requires : tie.Need-goes-on-requires Inv-loop μ-loop
+goes-on-requires c κs = search needs
+
+turns-left-requires-2 : tie.Need-turns-left-requires-2 Inv-loop μ-loop
+turns-left-requires-2 c κs = search needs
+
+loop-less : tie.Need-loop-less Inv-loop μ-loop
+loop-less c = search needs
+
+loop-again : tie.Need-loop-again Inv-loop μ-loop
+loop-again c =
+    let p = c .before .before .before in
+    let t = p .before .before .before .before .before .before .before in
+    let g = t .before .before .before .before .before in
+    let f = g .before in
+    let o = f .before .before .before .before .loop .inv in
+    (
+      omega (arith, o .0, g .piece2 .given), omega (arith, o .1, t .text2 .given), p .pass .ensures .0,
+      omega (arith, p .pass .ensures .1, f .fill .ensures .1, o .0), o .4, o .5, o .6, o .7,
+    )
+
+returns-3 : tie.Need-returns-3 Inv-loop μ-loop
+returns-3 c = search needs
+
+close-requires : tie.Need-close-requires Inv-loop μ-loop
+close-requires c κs = search needs
+
+slice-aggregate-write-5 : tie.Need-slice-aggregate-write-5 Inv-loop μ-loop
+slice-aggregate-write-5 c = search needs
+
+sub-write-3 : tie.Need-sub-write-3 Inv-loop μ-loop
+sub-write-3 c = search needs
+
+part-write-start-3 : tie.Need-part-write-start-3 Inv-loop μ-loop
+part-write-start-3 c = search needs
+
+part-write-end-3 : tie.Need-part-write-end-3 Inv-loop μ-loop
+part-write-end-3 c = search needs
+
+sub-write-4 : tie.Need-sub-write-4 Inv-loop μ-loop
+sub-write-4 c = search needs
+
+part-write-start-4 : tie.Need-part-write-start-4 Inv-loop μ-loop
+part-write-start-4 c = search needs
+
+part-write-end-4 : tie.Need-part-write-end-4 Inv-loop μ-loop
+part-write-end-4 c = search needs
+
+write-requires-3 : tie.Need-write-requires-3 Inv-loop μ-loop
+write-requires-3 c κs = search needs
+
+returns-4 : tie.Need-returns-4 Inv-loop μ-loop
+returns-4 c = search needs
 
 pub main-spec : {M : Type 1} → statement M
 main-spec =
@@ -196,40 +195,53 @@ main-spec =
     (tie.spec
     Inv-loop
     μ-loop
+    ordered-requires
+    buffer-requires
+    put-plan-requires
+    slice-aggregate-tell
+    sub-tell
+    part-tell-start
+    part-tell-end
+    tell-requires
+    returns
+    slice-aggregate-open
+    open-requires
+    returns-2
+    input-of-requires
     large-buffer-requires
     large-buffer-requires-2
-    begin-requires
     put-header-requires
+    slice-aggregate-write
     sub-write
     part-write-start
     part-write-end
-    slice-aggregate-write
+    slice-aggregate-write-2
     write-requires
+    begin-requires
     turns-left-requires
     loop-holds
-    slice-aggregate-read
-    read-requires
-    slice-aggregate-count
-    count-requires
+    slice-aggregate-fill
+    slice-aggregate-fill-2
+    fill-requires
     sub-feed
     part-feed-start
     part-feed-end
     slice-aggregate-feed
     feed-requires
+    slice-aggregate-write-3
     sub-write-2
     part-write-start-2
     part-write-end-2
-    slice-aggregate-write-2
+    slice-aggregate-write-4
     write-requires-2
-    add-from
+    pass-requires
     goes-on-requires
     turns-left-requires-2
     loop-less
     loop-again
-    slice-aggregate-fail
-    fail-requires
-    returns
+    returns-3
     close-requires
+    slice-aggregate-write-5
     sub-write-3
     part-write-start-3
     part-write-end-3
@@ -237,4 +249,4 @@ main-spec =
     part-write-start-4
     part-write-end-4
     write-requires-3
-    returns-2)
+    returns-4)
