@@ -1,11 +1,16 @@
 -- The proving set, and the cases that tell near misses apart, hold: the checker computes them from the definitions. Assumes nothing.
 use mathlib.Core.Path.{_≡_, refl}
+use mathlib.Core.Bool.{true, false}
 use mathlib.Core.List.{[], _∷_, _++_}
 use Prim.Native.Nat.{_^_}
 use lib.Dec.{T}
-use Rattle.events.specs.declared.Event.the-variants.{NewBoard, Clock}
+use Rattle.events.specs.declared.Event.the-variants.{NewBoard, Submit, Clock}
 use Rattle.session.specs.Recording.{mostEvents}
-use Rattle.promises.specs.ProvingSet.{line}
+use Rattle.promises.specs.ProvingSet.{headerLine}
+use Rattle.text.specs.Text.{ascii, decimalIn, decimal, lineText, rowText}
+use Rattle.answer_words.specs.AnswerWords.{answerWords}
+use Rattle.worded.specs.Worded.{idText, wordedText}
+use Rattle.listing.specs.Listing.{headerText, listingText, stopText, endText, planText}
 use Rattle.promises.specs.Cases.{submit, clock}
 use Rattle.lists.specs.Lists.{keep, some?, all?, pairwise?, head?, orElse, lastOr, indexOf, putFirst, insertBy, sortBy, each, firstOf, range, highest, addTo, rising}
 use Rattle.ways.specs.Ways.{isOpen, pairsIn, openingsIn, after, openingsAfter, askedOn}
@@ -18,11 +23,11 @@ use Rattle.lookups.specs.Lookups.{horizonList, stripNumbers, busyColumns}
 use Rattle.board.specs.Answers.{told}
 use Rattle.board.specs.Calls.{orRefused, freshBoard, created, withTask, taken, answered, submitted, boardAt, clocked, withdrawn, remaining, opened, openedBuffer, listed, listedBuffer, counted}
 use Rattle.board.specs.Refusals.{refusal, refusedCreate, refusedSubmit, refusedInstant, refusedWithdraw, refusedOpenings, refusedHorizon}
-use Rattle.events.specs.Records.{bytesOf, numberOf, kindOf, bodyOf, recordOf, wholeOr15, readFrom, written, writtenBuffer, toldRead, toldWritten}
+use Rattle.events.specs.Records.{bytesOf, numberOf, kindOf, bodyOf, recordOf, wholeOr15, readFrom, written, writtenBuffer, toldRead, toldWritten, idOf}
 use Rattle.session.specs.Recording.{firstState, lineOf, stopLine, outcome, storyFrom, story}
 use Rattle.promises.specs.Cases.{numbers, afterEvent, play, same, sameAll, passes, at, only}
 use Rattle.promises.specs.Edges.{refusedList, edgeSet, filled}
-use Rattle.promises.specs.ProvingSet.{played, tableWith, withClocks, firstSix, seven, listing, provingSet, twoRuns, waitingAhead, tellingSet, listingEvents, listingLines, recording}
+use Rattle.promises.specs.ProvingSet.{played, tableWith, withClocks, firstSix, seven, listing, provingSet, twoRuns, waitingAhead, tellingSet, listingEvents, listingPrinted, recording}
 
 -- every definition of the book, opened so that it computes, group by group
 open-lists : Unit {0}
@@ -49,16 +54,20 @@ open-records : Unit {0}
 unfolding bytesOf numberOf kindOf bodyOf recordOf wholeOr15 readFrom written writtenBuffer toldRead toldWritten lineOf stopLine idOf outcome storyFrom story
 open-records = tt
 
+open-texts : Unit {0}
+unfolding decimalIn decimal lineText rowText answerWords idText wordedText headerText listingText stopText endText planText
+open-texts = tt
+
 open-cases : Unit {0}
 unfolding numbers afterEvent play same sameAll passes at only
 open-cases = tt
 
 open-sets : Unit {0}
-unfolding refusedList edgeSet filled played tableWith withClocks firstSix seven listing provingSet twoRuns waitingAhead tellingSet listingEvents listingLines recording
+unfolding refusedList edgeSet filled played tableWith withClocks firstSix seven listing provingSet twoRuns waitingAhead tellingSet listingEvents listingPrinted recording
 open-sets = tt
 
 open-book : Unit {0}
-unfolding open-lists open-planners open-lookups open-board open-refusals open-records open-cases open-sets
+unfolding open-lists open-planners open-lookups open-board open-refusals open-records open-cases open-sets open-texts
 open-book = tt
 
 -- CASES 1 TO 9 OF DOCUMENT 01
@@ -81,26 +90,34 @@ pub filled-up : play (submit 0 65 1 1 1 9 ∷ submit 3 65 1 1 1 0 ∷ clock 9 �
 unfolding open-book
 filled-up = refl
 
--- THE LISTING OF DOCUMENT 01, from the bytes of its records to the lines of `plan`
-pub listing-printed : story (recording listingEvents) .lines ≡ listingLines
+-- THE LISTING OF DOCUMENT 01, from the bytes of its records to the bytes that `plan` prints
+pub listing-printed : planText false (recording listingEvents) ≡ record { out = listingPrinted; err = [] }
 unfolding open-book
 listing-printed = refl
 
--- 15 and 16 get their line, kind as the byte read, and end the run; no byte is no line
-pub cut-short-printed : story (recordOf (NewBoard 4 1) ++ (3 ∷ 1 ∷ [])) .lines ≡ line 1 1 0 0 0 0 ∷ line 2 3 15 0 0 0 ∷ []
+-- 15 and 16 get their line, kind as the byte read, and end the run, and standard error names the event; no byte is no line
+pub cut-short-printed : planText false (recordOf (NewBoard 4 1) ++ (3 ∷ 1 ∷ []))
+    ≡ record { out = headerLine ++ ascii "1 1 0 0 0 0\n2 3 15 0 0 0\n"; err = ascii "plan: event 2 (kind 3) is cut short (15): the recording is not whole\n" }
 unfolding open-book
 cut-short-printed = refl
 
-pub unknown-printed : story (7 ∷ recordOf (NewBoard 4 1)) .lines ≡ line 1 7 16 0 0 0 ∷ []
+pub unknown-printed : planText false (7 ∷ recordOf (NewBoard 4 1))
+    ≡ record { out = headerLine ++ ascii "1 7 16 0 0 0\n"; err = ascii "plan: event 1 (kind 7) is of no known kind (16): the rest was not read\n" }
 unfolding open-book
 unknown-printed = refl
 
-pub nothing-printed : story [] .lines ≡ []
+pub nothing-printed : planText false [] ≡ record { out = headerLine; err = [] }
 unfolding open-book
 nothing-printed = refl
 
+-- `plan --words`
+pub words-printed : planText true (recordOf (NewBoard 4 1) ++ recordOf (Submit 9 (record { id = 17; e = 1; d = 9; w = 1; h = 1 })))
+    ≡ record { out = ascii "event kind answer column start finish id answer\n1 1 0 0 0 0 - 0 done\n2 2 3 0 0 0 17 3 no such planner\n"; err = [] }
+unfolding open-book
+words-printed = refl
+
 -- after as many events as are left to read it stops without a line, and that many are left at the start
-pub stops-silently : storyFrom 1 firstState 6 (recordOf (NewBoard 4 1) ++ recordOf (Clock 2)) .lines ≡ line 7 1 0 0 0 0 ∷ []
+pub stops-silently : listingText false (storyFrom 1 firstState 6 (recordOf (NewBoard 4 1) ++ recordOf (Clock 2)) .lines) ≡ ascii "7 1 0 0 0 0\n"
 unfolding open-book
 stops-silently = refl
 

@@ -7,7 +7,7 @@ use Rattle.events.specs.declared.Event.{Event}
 use Rattle.events.specs.declared.Event.the-variants.{NewBoard, Submit, Clock, Withdraw}
 use Rattle.events.specs.Records.{recordOf}
 use Rattle.lists.specs.Lists.{each}
-use Rattle.session.specs.Recording.{Line}
+use Rattle.text.specs.Text.{ascii}
 use Rattle.promises.specs.Cases.{ask, Step, submit, clock, withdraw, horizon, openings, Case, case, at, only}
 
 -- each row of the table as a clock to its arrival and a submission to planner n
@@ -105,21 +105,25 @@ tellingSet =
     (at 1 0 2 ∷ at 1 2 4 ∷ at 1 4 6 ∷ only 0 ∷ only 10 ∷ at 3 2 5 ∷ [])
     ∷ []
 
--- the listing of document 01: the records of its events, and the lines that `plan` prints
+-- the listing of document 01: its events, and what `plan` prints for their records
 unfoldable pub listingEvents : List Event
 listingEvents =
     NewBoard 4 1 ∷ Submit 2 (ask 1 2 1 2 9) ∷ Submit 2 (ask 2 3 1 4 9) ∷ Submit 2 (ask 3 1 1 5 5)
     ∷ Submit 3 (ask 3 1 1 5 5) ∷ Clock 2 ∷ Withdraw 2 ∷ []
 
--- a line of the listing
-abbrev pub line : ℕ → ℕ → ℕ → ℕ → ℕ → ℕ → Line
-line n k a c s f = record { event = n; kind = k; answer = a; column = c; start = s; finish = f }
+abbrev pub headerLine : List ℕ
+headerLine = ascii "event kind answer column start finish\n"
 
--- the listing's lines, without its header
-unfoldable pub listingLines : List Line
-listingLines =
-    line 1 1 0 0 0 0 ∷ line 2 2 0 1 0 2 ∷ line 3 2 0 1 2 6 ∷ line 4 2 10 0 0 0 ∷ line 5 2 0 4 0 5
-    ∷ line 6 3 0 0 0 0 ∷ line 7 4 14 0 0 0 ∷ []
+unfoldable pub listingPrinted : List ℕ
+listingPrinted =
+    headerLine
+    ++ ascii "1 1 0 0 0 0\n"
+    ++ ascii "2 2 0 1 0 2\n"
+    ++ ascii "3 2 0 1 2 6\n"
+    ++ ascii "4 2 10 0 0 0\n"
+    ++ ascii "5 2 0 4 0 5\n"
+    ++ ascii "6 3 0 0 0 0\n"
+    ++ ascii "7 4 14 0 0 0\n"
 
 -- the bytes of some events
 unfoldable pub recording : List Event → List ℕ
