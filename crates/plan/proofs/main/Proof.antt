@@ -15,6 +15,16 @@ Inv-loop fd input₀ piece₀ text₀ size done l₀ turns₀ t27 t28 t29 t30 in
 abbrev μ-loop : tie.MeasureT-loop
 μ-loop fd input₀ piece₀ text₀ size done l₀ turns₀ t27 t28 t29 t30 input piece text l turns = turns
 
+-- what was fed, what was filled, and the turn
+abbrev fedOf : tie.After-pass Inv-loop μ-loop → tie.After-text2 Inv-loop μ-loop
+fedOf c = c .before .before .before .before .before .before .before
+
+abbrev filledOf : tie.After-text2 Inv-loop μ-loop → tie.After-piece2 Inv-loop μ-loop
+filledOf c = c .before .before .before .before .before
+
+abbrev turnOf : tie.After-piece2 Inv-loop μ-loop → tie.In-loop Inv-loop μ-loop
+turnOf c = c .before .before .before .before
+
 ordered-requires : tie.Need-ordered-requires Inv-loop μ-loop
 ordered-requires c κs = search needs
 
@@ -150,10 +160,15 @@ loop-again c =
     let t = p .before .before .before .before .before .before .before in
     let g = t .before .before .before .before .before in
     let f = g .before in
-    let o = f .before .before .before .before .loop .inv in
-    (
-      omega (arith, o .0, g .piece2 .given), omega (arith, o .1, t .text2 .given), p .pass .ensures .0,
-      omega (arith, p .pass .ensures .1, f .fill .ensures .1, o .0), o .4, o .5, o .6, o .7,
+    let o = f .before .before .before .before .loop .inv in (
+      omega (arith, o .0, g .piece2 .given),
+      omega (arith, o .1, t .text2 .given),
+      p .pass .ensures .0,
+      omega (arith, p .pass .ensures .1, g .before .fill .ensures .1, o .0),
+      o .4,
+      o .5,
+      o .6,
+      o .7,
     )
 
 returns-3 : tie.Need-returns-3 Inv-loop μ-loop
