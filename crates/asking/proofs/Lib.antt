@@ -1,0 +1,4 @@
+pub mod Copies
+pub mod Lookups
+pub mod Pages
+pub mod Steps
