@@ -2,3 +2,4 @@ pub mod Copies
 pub mod Lookups
 pub mod Pages
 pub mod Steps
+pub mod Counted

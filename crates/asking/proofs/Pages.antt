@@ -8,7 +8,7 @@ use native.Mathlib.Omega.{arith}
 use borrow.Author.Tests.{lt-ltb, le-ltb, le-leb, lt-leb, ltb-true, ltb-false}
 use lib.Dec.{ltb, leb}
 use lib.ListN.{length, take, drop, getD, length-take, length-drop, length-append, take-append-drop}
-use lib.Seq.{take-all, length-take-le}
+use lib.Seq.{take-all, take-append-add, length-take-le}
 use Rattle.lists.specs.Lists.{lastOr, overFront, each}
 use Rattle.ways.specs.Ways.{pair}
 use Rattle.planners.specs.Openings.{Place, pairNumbers}
@@ -189,3 +189,49 @@ module _ (b : Board) (p : Page) (r : Opened) (words lent : List ℕ)
         last : (getD (pairNumbers here ++ drop (length (pairNumbers here)) lent) 5950 0 ≡ lastOr (pair (p .start) (p .column)) here .start)
             × (getD (pairNumbers here ++ drop (length (pairNumbers here)) lent) 5951 0 ≡ lastOr (pair (p .start) (p .column)) here .place)
         last = last-pair (pair (p .start) (p .column)) here (drop (length (pairNumbers here)) lent) 2975 (omega (arith, length-take-le pageRows from (omega (arith, goes-past .1))))
+
+-- WHAT A PAGE THAT IS NOT THE LAST leaves: the openings behind it
+none-left : (n : ℕ) → drop {A = Place} n [] ≡ []
+none-left zero = refl
+none-left (suc n) = refl
+
+pub left-after : (b : Board) (p : Page) (n : ℕ) → leftTo b (pageAfter p (take n (leftTo b p))) ≡ drop n (leftTo b p)
+unfolding leftTo orRefused remaining
+left-after b p n = go (refusedOpenings b (p .task))
+  where
+    at : Place → List Place
+    at q = remaining b (p .task) (q .start) (q .place)
+
+    here : Place
+    here = pair (p .start) (p .column)
+
+    from : ℕ → Place → List Place
+    from k q = orRefused {A = List Place} k (λ j. []) (at q)
+
+    go : (k : ℕ) → from k (lastOr here (take n (from k here))) ≡ drop n (from k here)
+    go zero = after-last (b .device .columns) (b .now) (liveOf b) (p .task) n here
+    go (suc k) = sym (none-left n)
+
+-- ROWS IN TWO PARTS
+places-append : (ps qs : List Place) → placesText (ps ++ qs) ≡ placesText ps ++ placesText qs
+unfolding placesText rowsText each
+places-append [] qs = refl
+places-append (p ∷ ps) qs = ap (λ t. rowText (placeRow p) ++ t) (places-append ps qs) ∙ sym (append-assoc (rowText (placeRow p)) (placesText ps) (placesText qs))
+
+pub openings-split : (n most : ℕ) (ps : List Place) → n ≤ most → n ≤ length ps → placesText (take n ps) ++ openingsText (most - n) (drop n ps) ≡ openingsText most ps
+unfolding openingsText
+openings-split n most ps h k =
+    sym (append-assoc (placesText (take n ps)) (placesText (take (most - n) (drop n ps))) (lastRow (ltb (most - n) (length (drop n ps)))))
+    ∙ ap₂ (λ x y. x ++ lastRow y) (sym (places-append (take n ps) (take (most - n) (drop n ps))) ∙ ap placesText whole) (more (decLe (length ps) most))
+  where
+    front : length (take n ps) ≡ n
+    front = length-take-le n ps k
+
+    whole : take n ps ++ take (most - n) (drop n ps) ≡ take most ps
+    whole =
+        sym (take-append-add (take n ps) (drop n ps) (most - n))
+        ∙ ap₂ take (let z : length (take n ps) + (most - n) ≡ most = omega (arith, front) in z) (take-append-drop n ps)
+
+    more : Dec (length ps ≤ most) → ltb (most - n) (length (drop n ps)) ≡ ltb most (length ps)
+    more (yes l) = le-ltb (most - n) (length (drop n ps)) (omega (arith, length-drop n ps)) ∙ sym (le-ltb most (length ps) l)
+    more (no l) = lt-ltb (most - n) (length (drop n ps)) (omega (arith, length-drop n ps)) ∙ sym (lt-ltb most (length ps) (omega arith))
