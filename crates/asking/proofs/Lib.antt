@@ -3,3 +3,4 @@ pub mod Lookups
 pub mod Pages
 pub mod Steps
 pub mod Counted
+pub mod Cuts

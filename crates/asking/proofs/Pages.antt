@@ -190,6 +190,11 @@ module _ (b : Board) (p : Page) (r : Opened) (words lent : List ℕ)
             × (getD (pairNumbers here ++ drop (length (pairNumbers here)) lent) 5951 0 ≡ lastOr (pair (p .start) (p .column)) here .place)
         last = last-pair (pair (p .start) (p .column)) here (drop (length (pairNumbers here)) lent) 2975 (omega (arith, length-take-le pageRows from (omega (arith, goes-past .1))))
 
+-- where nothing is refused, they are what remains
+pub left-whole : (b : Board) (p : Page) → refusedOpenings b (p .task) ≡ 0 → leftTo b p ≡ remaining b (p .task) (p .start) (p .column)
+unfolding leftTo orRefused
+left-whole b p e = rw e
+
 -- WHAT A PAGE THAT IS NOT THE LAST leaves: the openings behind it
 none-left : (n : ℕ) → drop {A = Place} n [] ≡ []
 none-left zero = refl
