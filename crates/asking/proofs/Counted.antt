@@ -1,11 +1,11 @@
--- How many events a reader has read: as many as it has told; and fewer than may be where a recording ends in 15 or 16. Assumes nothing.
-use Prim.Native.Nat.{ℕ, zero, suc, _+_, _-_, _<_, min}
+-- How many bytes a reader takes: no more than come; how many events: as many as it has told, and fewer than may be where a recording ends in 15 or 16. Assumes nothing.
+use Prim.Native.Nat.{ℕ, zero, suc, _+_, _-_, _≤_, _<_, min}
 use mathlib.Core.Path.{_≡_, refl, sym, ap, _∙_, subst}
 use mathlib.Core.Bool.{Bool, true, false, cond}
 use mathlib.Core.List.{List, [], _∷_, _++_}
 use native.Mathlib.Omega.{arith}
 use lib.Dec.{ltb, eqb}
-use lib.ListN.{length, take, drop, length-append}
+use lib.ListN.{length, take, drop, length-append, length-take}
 use Rattle.steps.specs.declared.State.{State}
 use Rattle.events.specs.declared.Event.{Event}
 use Rattle.events.specs.declared.Reading.{Reading}
@@ -15,7 +15,7 @@ use Rattle.session.specs.declared.Ending.{Ending}
 use Rattle.session.specs.declared.Ending.the-variants.{NotYet, AtEnd, In15, In16, AtLast, PastLast}
 use Rattle.session.specs.Recording.{Line, Story, outcome, storyFrom, story, Run, ranFrom, roomFor, mostEvents, firstState}
 use Rattle.session.proofs.Running.{ran-got}
-use Rattle.session.proofs.Recorded.{story-got, story-cut, story-strange, story-end}
+use Rattle.session.proofs.Recorded.{run-inside, story-got, story-cut, story-strange, story-end}
 use Rattle.reader.specs.declared.Reader.{Reader}
 use Rattle.reader.specs.Reader.{heldOf, Heard, after, stopsBefore, heardOver, goesOnWith, passedOver, laterEnd, open?, heard}
 use Rattle.reader.proofs.Cuts.{Reads, done, feed}
@@ -76,6 +76,42 @@ module _ (r : Reader) where
       go true true = over-counts 0 piece words
       go true false = over-counts (length (heldOf r)) (take 18 (heldOf r ++ piece)) (min words 6)
       go false u = let z : r .number ≡ r .number + 0 = omega arith in z
+
+  -- NO MORE IS TAKEN than comes
+  over-inside : (kept : ℕ) (bytes : List ℕ) (words : ℕ) → heardOver r kept bytes words .taken ≤ length bytes - kept
+  unfolding heardOver
+  over-inside kept bytes words = go (ltb (length (run .lines)) (roomFor words (r .number)))
+    where
+      run : Run
+      run = ranFrom (roomFor words (r .number)) (r .state) (r .number) bytes
+
+      stops : (x : Reading) → stopsBefore r run (drop (run .taken) bytes) (length bytes - kept) x .taken ≤ length bytes - kept
+      stops End = unfold stopsBefore in omega arith
+      stops (Got v n) = unfold stopsBefore in omega arith
+      stops (CutShort k) = unfold stopsBefore in omega arith
+      stops (Unknown k) = unfold stopsBefore in omega arith
+
+      go : (t : Bool) → cond t (stopsBefore r run (drop (run .taken) bytes) (length bytes - kept) (readFrom (drop (run .taken) bytes)))
+          record {
+            lines = run .lines;
+            events = run .events;
+            reader = after r run (r .held) (cond (eqb (run .taken) 0) (r .size) 0) (cond (ltb (r .number + length (run .lines)) mostEvents) NotYet AtLast);
+            taken = run .taken - kept;
+          } .taken ≤ length bytes - kept
+      go true = stops (readFrom (drop (run .taken) bytes))
+      go false = omega (arith, run-inside (roomFor words (r .number)) (r .state) (r .number) bytes)
+
+  pub heard-inside : (piece : List ℕ) (words : ℕ) → heard r piece words .taken ≤ length piece
+  unfolding heard goesOnWith
+  heard-inside piece words = go (open? (r .end)) (eqb (length (heldOf r)) 0)
+    where
+      go : (t u : Bool)
+          → cond t (cond u (heardOver r 0 piece words) (heardOver r (length (heldOf r)) (take 18 (heldOf r ++ piece)) (min words 6))) (passedOver r piece (laterEnd (r .end) piece)) .taken
+          ≤ length piece
+      go true true = let h = over-inside 0 piece words in omega arith
+      go true false =
+          omega (arith, over-inside (length (heldOf r)) (take 18 (heldOf r ++ piece)) (min words 6), length-take 18 (heldOf r ++ piece), length-append (heldOf r) piece)
+      go false u = omega arith
 
 -- A WAY TO READ: the events told on the way
 pub reads-count : {r last : Reader} {bytes : List ℕ} {ls : List Line} {vs : List Event} → Reads r bytes ls vs last → last .number ≡ r .number + length vs

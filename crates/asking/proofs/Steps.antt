@@ -1,18 +1,31 @@
--- Close and next: what is written, and where the program then stands. Assumes nothing.
-use Prim.Native.Nat.{ℕ}
+-- Feed, close and next: what is taken, what is written, and where the program then stands. Assumes nothing.
+use Prim.Native.Nat.{ℕ, _≤_}
 use mathlib.Core.Path.{_≡_, refl, sym, ap, ap₂, _∙_, subst}
 use mathlib.Core.Bool.{true, false, cond}
-use mathlib.Core.List.{List, []}
-use lib.ListN.{length}
+use mathlib.Core.List.{List, [], _++_}
+use native.Mathlib.Omega.{arith}
+use lib.ListN.{length, drop, length-append}
 use Rattle.lists.specs.Lists.{overFront}
 use Rattle.session.specs.declared.Ending.{Ending}
-use Rattle.reader.specs.Reader.{endOf}
+use Rattle.reader.specs.declared.Reader.{Reader}
+use Rattle.reader.specs.declared.Fed as Read
+use Rattle.reader.specs.Reader.{fed, heard, endOf}
 use Rattle.asking.specs.declared.Part.{Part}
 use Rattle.asking.specs.declared.Asking.{Asking}
 use Rattle.asking.specs.declared.Closed.{Closed}
 use Rattle.asking.specs.declared.Went.{Went}
 use Rattle.asking.specs.Asking.{whole?, endText}
 use Rattle.asking.specs.Machine.{Piece, alone, firstPart, turned, asPart, Said, nextEvent, closingPart, closing, closed, nextPart, went}
+use Rattle.asking.proofs.Counted.{heard-inside}
+
+-- a text at the front lies in its buffer
+front-fits : (text l : List ℕ) {out : List ℕ} {n : ℕ} → n ≡ length text → out ≡ overFront text l → n ≤ length out
+front-fits text l h e = omega (arith, ap length e, length-append text (drop (length text) l))
+
+-- NO MORE IS TAKEN of a piece than it has
+pub fed-inside : (r : Reader) (piece : List ℕ) (words : ℕ) {f : Read.Fed} → f ≡ fed r piece words → f .taken ≤ length piece
+unfolding fed
+fed-inside r piece words e = let h = heard-inside r piece words in omega (arith, ap (λ x. x .taken) e)
 
 module _ (a : Asking) where
   -- the recording is whole, or not
@@ -28,7 +41,7 @@ module _ (a : Asking) where
   pub closes : {end : Ending} {event said : ℕ} {part : Part} {l out err : List ℕ} (m : List ℕ) → end ≡ endOf (a .reader) → event ≡ nextEvent (a .reader .number)
       → (said ≡ length (endText event end)) × (err ≡ overFront (endText event end) m) → Said (closingPart a end) part l out
       → (record { asking = record { reader = a .reader; question = a .question; page = part .page; more = part .more }; used = part .used; said = said } ≡ closed a)
-      × ((out ≡ overFront (closing a .out) l) × (err ≡ overFront (closing a .err) m))
+      × ((out ≡ overFront (closing a .out) l) × ((err ≡ overFront (closing a .err) m) × ((part .used ≤ length out) × (said ≤ length err))))
   unfolding closed closing
   closes {end} {event} {said} {part} {l} m e n t s = (
     λ i. record {
@@ -36,7 +49,10 @@ module _ (a : Asking) where
       used = (told i) .used;
       said = (t .0 ∙ ap length text) i;
     },
-    (s .text ∙ ap (λ x. overFront (closingPart a x .text) l) e, t .1 ∙ ap (λ x. overFront x m) text),
+    (
+      s .text ∙ ap (λ x. overFront (closingPart a x .text) l) e,
+      (t .1 ∙ ap (λ x. overFront x m) text, (front-fits (closingPart a end .text) l (ap (λ x. x .used) (s .answer)) (s .text), front-fits (endText event end) m (t .0) (t .1))),
+    ),
   )
     where
       text : endText event end ≡ endText (nextEvent (a .reader .number)) (endOf (a .reader))
@@ -54,20 +70,20 @@ module _ (a : Asking) where
   unfolding nextPart
   next-page e = rw e
 
-  pub rests : a .more ≡ false → (l : List ℕ) → (record { asking = a; used = 0 } ≡ went a) × (l ≡ overFront (nextPart a .text) l)
+  pub rests : a .more ≡ false → (l : List ℕ) → (record { asking = a; used = 0 } ≡ went a) × ((l ≡ overFront (nextPart a .text) l) × (0 ≤ length l))
   unfolding went
   rests e l = (
     (λ i. record { asking = record { reader = a .reader; question = a .question; page = a .page; more = e i }; used = 0 })
         ∙ ap (λ (p : Piece). record { asking = record { reader = a .reader; question = a .question; page = p .page; more = p .more }; used = length (p .text) }) (sym (next-none e)),
-    ap (λ (p : Piece). overFront (p .text) l) (sym (next-none e)),
+    (ap (λ (p : Piece). overFront (p .text) l) (sym (next-none e)), omega arith),
   )
 
   pub goes : a .more ≡ true → {part : Part} {l out : List ℕ} → Said (turned (a .reader .state .board) (a .page)) part l out
       → (record { asking = record { reader = a .reader; question = a .question; page = part .page; more = part .more }; used = part .used } ≡ went a)
-      × (out ≡ overFront (nextPart a .text) l)
+      × ((out ≡ overFront (nextPart a .text) l) × (part .used ≤ length out))
   unfolding went
   goes e {part} {l} s =
       let told : part ≡ asPart (nextPart a) = s .answer ∙ ap asPart (sym (next-page e)) in (
         ap (λ (p : Part). record { asking = record { reader = a .reader; question = a .question; page = p .page; more = p .more }; used = p .used }) told,
-        s .text ∙ ap (λ (p : Piece). overFront (p .text) l) (sym (next-page e)),
+        (s .text ∙ ap (λ (p : Piece). overFront (p .text) l) (sym (next-page e)), front-fits (turned (a .reader .state .board) (a .page) .text) l (ap (λ x. x .used) (s .answer)) (s .text)),
       )

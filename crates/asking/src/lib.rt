@@ -94,6 +94,7 @@ pub fn begin(question: Question) -> Asking
 // A PIECE of the recording. Its lines are written and nobody reads them.
 pub fn feed(a: Asking, piece: &[u8]) -> Fed
     ensures { λ r. ⌜ r ≡ fedWith a (now (piece .entry)) ⌝ }
+    ensures { λ r. ⌜ r .taken ≤ length (now (piece .entry)) ⌝ }
 {
     let reader = a.reader;
     let question = a.question;
@@ -386,6 +387,7 @@ pub fn close(a: Asking, out: &mut [u8; 65536], err: &mut [u8; 512]) -> Closed
     ensures { λ r. ⌜ r ≡ closed a ⌝ }
     ensures { λ _. ⌜ now (out .exit) ≡ overFront (closing a .out) (now (out .entry)) ⌝ }
     ensures { λ _. ⌜ now (err .exit) ≡ overFront (closing a .err) (now (err .entry)) ⌝ }
+    ensures { λ r. ⌜ (r .used ≤ length (now (out .exit))) × (r .said ≤ length (now (err .exit))) ⌝ }
 {
     let reader = a.reader;
     let question = a.question;
@@ -409,6 +411,7 @@ pub fn close(a: Asking, out: &mut [u8; 65536], err: &mut [u8; 512]) -> Closed
 pub fn next(a: Asking, out: &mut [u8; 65536]) -> Went
     ensures { λ r. ⌜ r ≡ went a ⌝ }
     ensures { λ _. ⌜ now (out .exit) ≡ overFront (nextPart a .text) (now (out .entry)) ⌝ }
+    ensures { λ r. ⌜ r .used ≤ length (now (out .exit)) ⌝ }
 {
     if !a.more {
         return Went { asking: a, used: 0 };

@@ -1,6 +1,7 @@
 -- `asking::feed` meets its contract. Assumes nothing.
 use mathlib.Core.Path.{ap}
-use Rattle.asking.specs.Machine.{fedWith}
+use Rattle.asking.specs.Machine.{fedWith, lineWords}
+use Rattle.asking.proofs.Steps.{fed-inside}
 use borrow.Author.Needs.{needs}
 use Rattle.asking.proofs.feed.Statement.{statement}
 use Rattle.asking.proofs.feed.Tie as tie
@@ -14,8 +15,11 @@ feed-requires c κs = search needs
 returns : tie.Need-returns
 unfolding fedWith
 returns c =
-    let a = c .before .before .before .before .before .before .before .args .a in
-    ap (λ f. record { asking = record { reader = f .reader; question = a .question; page = a .page; more = a .more }; taken = f .taken }) (c .before .before .feed .ensures .0)
+    let s = c .before .before .before .before .before .before .before .args in
+    let e = c .before .before .feed .ensures .0 in (
+      ap (λ f. record { asking = record { reader = f .reader; question = s .a .question; page = s .a .page; more = s .a .more }; taken = f .taken }) e,
+      fed-inside (s .a .reader) (s .piece .now) lineWords e,
+    )
 
 pub feed-spec : {M : Type 1} → statement M
 feed-spec = tie.close (tie.spec slice-aggregate-feed feed-requires returns)
