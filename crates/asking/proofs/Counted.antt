@@ -72,7 +72,8 @@ module _ (r : Reader) where
   unfolding heard goesOnWith
   heard-counts piece words = go (open? (r .end)) (eqb (length (heldOf r)) 0)
     where
-      go : (t u : Bool) → Counts (cond t (cond u (heardOver r 0 piece words) (heardOver r (length (heldOf r)) (take 18 (heldOf r ++ piece)) (min words 6))) (passedOver r piece (laterEnd (r .end) piece)))
+      go : (t u : Bool)
+          → Counts (cond t (cond u (heardOver r 0 piece words) (heardOver r (length (heldOf r)) (take 18 (heldOf r ++ piece)) (min words 6))) (passedOver r piece (laterEnd (r .end) piece)))
       go true true = over-counts 0 piece words
       go true false = over-counts (length (heldOf r)) (take 18 (heldOf r ++ piece)) (min words 6)
       go false u = let z : r .number ≡ r .number + 0 = omega arith in z

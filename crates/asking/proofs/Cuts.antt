@@ -1,23 +1,21 @@
 -- FOR EVERY WAY TO CUT THE INPUT INTO PIECES: what close and every next write, one after the other, is what `ask` writes of the whole. Assumes nothing.
 use Prim.Native.Nat.{ℕ, zero, suc, _+_, _-_, _≤_, _<_}
-use mathlib.Core.Path.{_≡_, refl, sym, ap, ap₂, _∙_, subst}
+use mathlib.Core.Path.{_≡_, refl, sym, ap, ap₂, _∙_}
 use mathlib.Core.Bool.{Bool, true, false, cond}
-use mathlib.Core.List.{List, [], _∷_, _++_, append-nil}
-use native.Mathlib.Nat.{zero-add}
+use mathlib.Core.List.{List, [], _++_, append-nil}
 use native.Mathlib.Omega.{arith}
 use borrow.Author.Tests.{eqb-true}
 use lib.Dec.{eqb}
 use lib.ListN.{length, take, drop, length-drop}
 use Rattle.planners.specs.Openings.{Place}
-use Rattle.tasks.specs.declared.Submission.{Submission}
 use Rattle.board.specs.declared.Board.{Board}
 use Rattle.board.specs.Refusals.{refusedOpenings}
-use Rattle.board.specs.Calls.{orRefused, remaining, opened}
+use Rattle.board.specs.Calls.{remaining, opened}
 use Rattle.events.specs.declared.Event.{Event}
 use Rattle.session.specs.declared.Ending.{Ending}
 use Rattle.session.specs.Recording.{Line, Story, story}
 use Rattle.session.proofs.Recorded.{told}
-use Rattle.text.specs.Output.{Output, before}
+use Rattle.text.specs.Output.{before}
 use Rattle.questions.specs.declared.Question.{Question}
 use Rattle.questions.specs.declared.Question.the-variants as Asked
 use Rattle.board_text.specs.BoardText.{answerText}

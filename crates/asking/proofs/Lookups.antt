@@ -1,15 +1,14 @@
 -- What the lookups of a board answer, as rows of text: the horizon, and the openings from a page on. Assumes nothing.
-use Prim.Native.Nat.{ℕ, zero, suc, _+_, _-_, _*_, _/_, _≤_, _<_, min}
+use Prim.Native.Nat.{ℕ, zero, suc, _+_, _-_, _*_, _/_, _≤_, min}
 use mathlib.Core.Path.{_≡_, refl, sym, ap, ap₂, _∙_}
-use mathlib.Core.Bool.{true, false, not}
+use mathlib.Core.Bool.{false, not}
 use mathlib.Core.List.{List, [], _∷_, _++_, map, append-assoc}
 use native.Mathlib.Omega.{arith}
 use borrow.Author.Tests.{le-ltb, ltb-false}
 use lib.Dec.{ltb}
-use lib.ListN.{length, take, drop, getD, length-take, length-drop, length-append, take-append-drop}
+use lib.ListN.{length, take, drop, getD, length-take, take-append-drop}
 use lib.Seq.{drop-append-le}
 use Rattle.lists.specs.Lists.{lastOr, overFront}
-use Rattle.ways.specs.Ways.{pair}
 use Rattle.planners.specs.Openings.{Place, pairNumbers}
 use Rattle.lookups.specs.Lookups.{Strip, stripNumbers}
 use Rattle.board.specs.declared.Board.{Board}
@@ -23,7 +22,7 @@ use Rattle.board.specs.Calls.{orRefused, remaining, opened, openedBuffer, liste
 use Rattle.text.specs.Text.{rowsText, rowsOf}
 use Rattle.questions.specs.declared.Question.the-variants as Asked
 use Rattle.asking.specs.declared.Page.{Page}
-use Rattle.asking.specs.Asking.{stripRow, placeRow, placesText, horizonWords, replied, answered}
+use Rattle.asking.specs.Asking.{stripRow, placeRow, horizonWords, replied, answered}
 use Rattle.asking.specs.Machine.{leftTo, pageRows}
 use Rattle.asking.proofs.Copies.{replied-same}
 
@@ -122,7 +121,8 @@ module _ (b : Board) (p : Page) where
       from k = orRefused {A = List Place} k (λ j. []) all
 
       go : (k : ℕ)
-          → orRefused {A = Opened} k (λ j. record { number = j; count = 0; more = false; board = b }) (record { number = 0; count = length (take (words / 2) all); more = ltb (words / 2) (length all); board = b })
+          → orRefused {A = Opened} k (λ j. record { number = j; count = 0; more = false; board = b })
+          (record { number = 0; count = length (take (words / 2) all); more = ltb (words / 2) (length all); board = b })
           ≡ record { number = k; count = length (take (words / 2) (from k)); more = ltb (words / 2) (length (from k)); board = b }
       go zero = refl
       go (suc k) = rw (none-of (words / 2), le-ltb (words / 2) 0 (omega arith))

@@ -1,11 +1,11 @@
 -- A page of the openings: what `asking::turn` writes; and the pages one after the other are the one list. Assumes nothing.
 use Prim.Native.Nat.{ℕ, zero, suc, _+_, _-_, _*_, _/_, _≤_, _<_, min}
-use mathlib.Core.Path.{_≡_, refl, sym, ap, ap₂, _∙_, subst}
-use mathlib.Core.Bool.{Bool, true, false, cond, not, _||_}
-use mathlib.Core.List.{List, [], _∷_, _++_, map, map-append, append-assoc}
+use mathlib.Core.Path.{_≡_, refl, sym, ap, ap₂, _∙_}
+use mathlib.Core.Bool.{Bool, true, false, not, _||_}
+use mathlib.Core.List.{List, [], _∷_, _++_, append-assoc}
 use native.Mathlib.Decide.{decLe}
 use native.Mathlib.Omega.{arith}
-use borrow.Author.Tests.{lt-ltb, le-ltb, le-leb, lt-leb, ltb-true, ltb-false}
+use borrow.Author.Tests.{lt-ltb, le-ltb, le-leb, lt-leb}
 use lib.Dec.{ltb, leb}
 use lib.ListN.{length, take, drop, getD, length-take, length-drop, length-append, take-append-drop}
 use lib.Seq.{take-all, take-append-add, length-take-le}
@@ -20,11 +20,10 @@ use Rattle.board.specs.Calls.{orRefused, remaining, opened}
 use Rattle.text.specs.Text.{rowText, rowsText, rowsOf}
 use Rattle.text.specs.Digits.{Put}
 use Rattle.text.proofs.Spelling.{put-both}
-use Rattle.text.proofs.Rows.{rows-front}
 use Rattle.asking.specs.declared.Page.{Page}
 use Rattle.asking.specs.declared.Part.{Part}
 use Rattle.asking.specs.Asking.{placeRow, placesText, lastRow, openingsText}
-use Rattle.asking.specs.Machine.{Piece, alone, pageRows, leftTo, lastPage?, pageAfter, turned, asPart, wholePart, Said}
+use Rattle.asking.specs.Machine.{pageRows, leftTo, lastPage?, pageAfter, turned, wholePart, Said}
 use Rattle.asking.proofs.Copies.{at-front, front-put, said-whole}
 use Rattle.asking.proofs.Lookups.{place-rows, last-pair, opened-left}
 

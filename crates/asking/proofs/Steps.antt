@@ -1,19 +1,17 @@
 -- Feed, close and next: what is taken, what is written, and where the program then stands. Assumes nothing.
 use Prim.Native.Nat.{ℕ, _≤_}
-use mathlib.Core.Path.{_≡_, refl, sym, ap, ap₂, _∙_, subst}
-use mathlib.Core.Bool.{true, false, cond}
-use mathlib.Core.List.{List, [], _++_}
+use mathlib.Core.Path.{_≡_, sym, ap, ap₂, _∙_}
+use mathlib.Core.Bool.{true, false}
+use mathlib.Core.List.{List, []}
 use native.Mathlib.Omega.{arith}
 use lib.ListN.{length, drop, length-append}
 use Rattle.lists.specs.Lists.{overFront}
 use Rattle.session.specs.declared.Ending.{Ending}
 use Rattle.reader.specs.declared.Reader.{Reader}
 use Rattle.reader.specs.declared.Fed as Read
-use Rattle.reader.specs.Reader.{fed, heard, endOf}
+use Rattle.reader.specs.Reader.{fed, endOf}
 use Rattle.asking.specs.declared.Part.{Part}
 use Rattle.asking.specs.declared.Asking.{Asking}
-use Rattle.asking.specs.declared.Closed.{Closed}
-use Rattle.asking.specs.declared.Went.{Went}
 use Rattle.asking.specs.Asking.{whole?, endText}
 use Rattle.asking.specs.Machine.{Piece, alone, firstPart, turned, asPart, Said, nextEvent, closingPart, closing, closed, nextPart, went}
 use Rattle.asking.proofs.Counted.{heard-inside}

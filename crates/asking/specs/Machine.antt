@@ -1,5 +1,5 @@
 -- The program `ask` call by call: what each writes, and where it leaves the program standing. Assumes nothing.
-use Prim.Native.Nat.{ℕ, zero, suc, _-_, min}
+use Prim.Native.Nat.{ℕ, suc, _-_, min}
 use mathlib.Core.Path.{_≡_}
 use mathlib.Core.Bool.{Bool, true, false, cond, _||_}
 use mathlib.Core.List.{List, []}
@@ -7,7 +7,6 @@ use lib.Dec.{leb, eqb}
 use lib.ListN.{length, take}
 use Rattle.lists.specs.Lists.{lastOr, overFront}
 use Rattle.ways.specs.Ways.{pair}
-use Rattle.tasks.specs.declared.Submission.{Submission}
 use Rattle.planners.specs.Openings.{Place}
 use Rattle.board.specs.declared.Board.{Board}
 use Rattle.board.specs.Refusals.{refusedOpenings}

@@ -1,9 +1,7 @@
 -- `asking::answer_busy` meets its contract. Assumes nothing.
-use Prim.Native.Nat.{ℕ, _+_, _-_, _*_, _≤_, _<_, min}
-use mathlib.Core.Path.{_≡_, refl, sym, ap, ap₂, _∙_}
+use mathlib.Core.Path.{ap, _∙_}
 use native.Mathlib.Omega.{arith}
 use mathlib.Core.List.{[], _∷_}
-use lib.ListN.{length, take, length-take}
 use Rattle.text.specs.Text.{rowText}
 use Rattle.asking.specs.Asking.{replied, answered}
 use Rattle.asking.proofs.Copies.{at-front, lent-text, said-as}

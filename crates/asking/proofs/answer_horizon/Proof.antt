@@ -1,8 +1,8 @@
 -- `asking::answer_horizon` meets its contract: there is room for every run that was listed. Assumes nothing.
-use Prim.Native.Nat.{ℕ, _+_, _-_, _*_, _≤_, _<_, min}
-use mathlib.Core.Path.{_≡_, refl, sym, ap, ap₂, _∙_}
+use Prim.Native.Nat.{_-_, _*_, _≤_}
+use mathlib.Core.Path.{refl, ap, _∙_}
 use native.Mathlib.Omega.{arith}
-use lib.ListN.{length, take, length-take}
+use lib.ListN.{length-take}
 use Rattle.text.specs.Text.{rowsText, rowsOf}
 use Rattle.asking.specs.Asking.{replied}
 use Rattle.asking.proofs.Copies.{lent-text, said-as}
@@ -53,7 +53,8 @@ returns c =
     let s = h .before .before in
     let rows = rowsText (rowsOf 3 (h .horizon .result .count) (h .horizon .last .1 .0)) in
     said-as (s .args .out .now)
-    (ap (replied (h .horizon .result .number)) (lent-text rows _ (p .put-table .ensures .0) (p .put-table .ensures .1 .0)) ∙ horizon-answers (s .args .board) _ refl (h .horizon .ensures .0) (h .horizon .ensures .1))
+    (ap (replied (h .horizon .result .number)) (lent-text rows _ (p .put-table .ensures .0) (p .put-table .ensures .1 .0))
+    ∙ horizon-answers (s .args .board) _ refl (h .horizon .ensures .0) (h .horizon .ensures .1))
     (c .reply .ensures)
 
 pub answer-horizon-spec : {M : Type 1} → statement M

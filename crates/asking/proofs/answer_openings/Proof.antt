@@ -1,8 +1,8 @@
 -- `asking::answer_openings` meets its contract: the line alone, and whether pages follow. Assumes nothing.
-use Prim.Native.Nat.{ℕ, _+_, _-_, _*_, _≤_, _<_, min}
-use mathlib.Core.Path.{_≡_, refl, sym, ap, ap₂, _∙_}
+use Prim.Native.Nat.{_-_, _≤_}
+use mathlib.Core.Path.{_≡_, ap, _∙_}
 use native.Mathlib.Omega.{arith}
-use lib.ListN.{length, take, length-take}
+use lib.ListN.{length, length-take}
 use lib.Dec.{eqb}
 use Rattle.lists.specs.Lists.{overFront}
 use Rattle.board.specs.Calls.{opened}
@@ -59,7 +59,8 @@ returns c =
     let o = p .before .before .before .before .openings in
     let e = p .put-answer .ensures in
     let n : o .result .number ≡ opened (a .board) (a .first .task) (a .first .start) (a .first .column) 0 .number = ap (λ x. x .number) (o .ensures .0) in
-    let front = at-front (copies (answerText (o .result .number)) _ (e .0) (e .1 .0) (b .put-bytes .ensures .0) (b .put-bytes .ensures .1)) (omega (arith, short p, b .before .before .before .put-bytes-arg .given .0 .1)) in
+    let line = copies (answerText (o .result .number)) _ (e .0) (e .1 .0) (b .put-bytes .ensures .0) (b .put-bytes .ensures .1) in
+    let front = at-front line (omega (arith, short p, b .before .before .before .put-bytes-arg .given .0 .1)) in
     record {
       answer = λ i. record { used = (front .0 ∙ ap (λ x. length (answerText x)) n) i; page = a .first; more = eqb (n i) 0 };
       text = front .1 ∙ ap (λ x. overFront (answerText x) (a .out .now)) n;

@@ -18,7 +18,8 @@ unfolding answered
 returns c =
     let p = c .before .before in
     let s = p .before .before in
-    said-as (s .args .out .now) (ap (replied (unsoundness (s .args .board))) (front-text (stampText (s .args .instant) (s .args .board)) _ (p .put-stamped .ensures .0) (p .put-stamped .ensures .1 .0))) (c .show .ensures)
+    let rows = front-text (stampText (s .args .instant) (s .args .board)) _ (p .put-stamped .ensures .0) (p .put-stamped .ensures .1 .0) in
+    said-as (s .args .out .now) (ap (replied (unsoundness (s .args .board))) rows) (c .show .ensures)
 
 pub answer-stamp-spec : {M : Type 1} → statement M
 answer-stamp-spec = tie.close (tie.spec put-stamped-requires show-requires returns)

@@ -1,7 +1,6 @@
 -- `asking::put_end` meets its contract. Assumes nothing.
-use mathlib.Core.Path.{_≡_, refl}
+use mathlib.Core.Path.{refl}
 use native.Mathlib.Omega.{arith}
-use lib.ListN.{length}
 use Rattle.text.specs.Text.{ascii}
 use Rattle.asking.specs.Asking.{endText}
 use Rattle.asking.proofs.Copies.{put-as, at-front}
@@ -64,7 +63,8 @@ unfolding endText
 returns-6 c =
     let e = c .put-bytes .ensures in
     let t = c .before .before .before in
-    rw (t .enum-told4 .given .1) (at-front {l = t .before .before .args .err .now} (put-as _ (ascii "ask: the recording has more than 1000000000 events: not answered\n") refl (e .0) (e .1)) (omega (arith, c .before .before .put-bytes-arg .given .0 .1)))
+    let all = put-as _ (ascii "ask: the recording has more than 1000000000 events: not answered\n") refl (e .0) (e .1) in
+    rw (t .enum-told4 .given .1) (at-front {l = t .before .before .args .err .now} all (omega (arith, c .before .before .put-bytes-arg .given .0 .1)))
 
 pub put-end-spec : {M : Type 1} → statement M
 put-end-spec =

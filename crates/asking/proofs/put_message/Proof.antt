@@ -1,8 +1,7 @@
 -- `asking::put_message` meets its contract: the message is short. Assumes nothing.
-use Prim.Native.Nat.{ℕ, _+_, _-_, _*_, _≤_, _<_, min}
-use mathlib.Core.Path.{_≡_, refl, sym, ap, ap₂, _∙_}
+use Prim.Native.Nat.{_-_, _≤_}
 use native.Mathlib.Omega.{arith}
-use lib.ListN.{length, take, length-take}
+use lib.ListN.{length, length-take}
 use mir.Syntax.{w8, w32}
 use mir.Val.{Fits}
 use Rattle.board_text.specs.BoardText.{haltText}
@@ -44,7 +43,8 @@ returns c =
     let h = b .before in
     let s = h .before .before in
     let e = h .put-halt .ensures in
-    at-front (copies (haltText (s .args .event) (s .args .kind) (s .args .end)) _ (e .0) (e .1 .0) (c .put-bytes .ensures .0) (c .put-bytes .ensures .1)) (omega (arith, short s, b .put-bytes-arg .given .0 .1))
+    at-front (copies (haltText (s .args .event) (s .args .kind) (s .args .end)) _ (e .0) (e .1 .0) (c .put-bytes .ensures .0) (c .put-bytes .ensures .1))
+    (omega (arith, short s, b .put-bytes-arg .given .0 .1))
 
 pub put-message-spec : {M : Type 1} → statement M
 put-message-spec =

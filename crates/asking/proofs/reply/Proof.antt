@@ -1,6 +1,6 @@
 -- `asking::reply` meets its contract: the line, and the rows behind it. Assumes nothing.
 use Prim.Native.Nat.{_+_, _-_, _≤_}
-use mathlib.Core.Path.{_≡_, refl, sym, ap, ap₂, _∙_}
+use mathlib.Core.Path.{_≡_, refl}
 use native.Mathlib.Omega.{arith}
 use lib.ListN.{length, length-take}
 use mir.Syntax.{w8}
@@ -47,7 +47,9 @@ part-put-bytes-end : tie.Need-part-put-bytes-end
 part-put-bytes-end c = search needs
 
 put-bytes-requires : tie.Need-put-bytes-requires
-put-bytes-requires c κs = let h = c .before .before .before in omega (arith, short (h .before .before .before .before), h .put-answer .ensures .0, length-take (c .before .before .before .put-answer .result - 0) (c .before .before .before .put-answer .last .0))
+put-bytes-requires c κs =
+    let h = c .before .before .before in
+    omega (arith, short (h .before .before .before .before), h .put-answer .ensures .0, length-take (h .put-answer .result - 0) (h .put-answer .last .0))
 
 put-bytes-requires-2 : tie.Need-put-bytes-requires-2
 put-bytes-requires-2 c κs =

@@ -1,6 +1,6 @@
 -- `asking::show` meets its contract. Assumes nothing.
-use Prim.Native.Nat.{ℕ, _+_, _-_, _*_, _≤_, _<_, min}
-use mathlib.Core.Path.{_≡_, refl, sym, ap, ap₂, _∙_}
+use Prim.Native.Nat.{_-_}
+use mathlib.Core.Path.{_≡_, ap, ap₂}
 use native.Mathlib.Omega.{arith}
 use lib.ListN.{take}
 use Rattle.asking.specs.Asking.{replied}

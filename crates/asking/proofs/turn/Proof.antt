@@ -1,10 +1,8 @@
 -- `asking::turn` meets its contract: the last page, or one that goes on from its last pair. Assumes nothing.
-use Prim.Native.Nat.{ℕ, _+_, _-_, _*_, _≤_, _<_, min}
-use mathlib.Core.Path.{_≡_, refl, sym, ap, ap₂, _∙_}
+use Prim.Native.Nat.{_≤_, _<_}
+use mathlib.Core.Path.{_≡_, sym}
 use native.Mathlib.Omega.{arith}
-use mathlib.Core.Bool.{_||_, not, true, false}
-use lib.Dec.{leb}
-use lib.ListN.{length, take, length-take}
+use lib.ListN.{length}
 use Rattle.asking.specs.Machine.{pageRows}
 use Rattle.asking.proofs.Pages.{count-few, count-full, goes-past, turns-last, turns-on}
 use borrow.Author.Needs.{needs}

@@ -1,5 +1,4 @@
 -- `asking::whole` meets its contract. Assumes nothing.
-use mathlib.Core.Path.{ap}
 use mathlib.Core.Bool.{false}
 use borrow.Author.Needs.{needs}
 use Rattle.asking.proofs.whole.Statement.{statement}
