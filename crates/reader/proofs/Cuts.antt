@@ -477,3 +477,8 @@ heard-takes r s piece words h w = go (open? (r .end)) refl
     go : (b : Bool) → open? (r .end) ≡ b → 0 < heard r piece words .taken
     go true e = subst (λ (x : Heard). 0 < x .taken) (sym (heard-open r piece words e)) (opened e (decEq (length (heldOf r)) 0))
     go false e = subst (λ (x : Heard). 0 < x .taken) (sym (heard-closed r piece words e)) h
+
+-- and so however the reader has come there
+pub reads-takes : {last : Reader} {bytes : List ℕ} {ls : List Line} {vs : List Event} → Reads firstReader bytes ls vs last
+    → (piece : List ℕ) (words : ℕ) → 0 < length piece → 6 ≤ words → 0 < heard last piece words .taken
+reads-takes {last} w piece words h k = heard-takes last (reads-tell first-sane w .1) piece words h k

@@ -1,46 +1,30 @@
--- `ask::recorded` meets its contract: the program stands where it may go on, and the turns fall. Assumes nothing.
+-- `ask::recorded` is safe and ends: the buffer keeps its length, and the turns fall. Assumes nothing.
 use mathlib.Core.Path.{_≡_}
 use lib.ListN.{length}
-use Rattle.ask.specs.Asked.{Stands}
 use borrow.Author.Needs.{needs}
 use Rattle.ask.proofs.recorded.Statement.{statement}
 use Rattle.ask.proofs.recorded.Tie as tie
 
 abbrev Inv-loop : tie.InvT-loop
-Inv-loop bytes₀ words₀ board₀ s₀ turns₀ bytes words board s turns = (65536 ≡ length bytes) × (5952 ≡ length words) × Stands 65536 s
+Inv-loop bytes₀ t₀ turns₀ bytes t turns = 65536 ≡ length bytes
 
 abbrev μ-loop : tie.MeasureT-loop
-μ-loop bytes₀ words₀ board₀ s₀ turns₀ bytes words board s turns = turns
+μ-loop bytes₀ t₀ turns₀ bytes t turns = turns
 
 large-buffer-requires : tie.Need-large-buffer-requires Inv-loop μ-loop
 large-buffer-requires c κs = search needs
 
-no-words-requires : tie.Need-no-words-requires Inv-loop μ-loop
-no-words-requires c κs = search needs
-
-first-state-requires : tie.Need-first-state-requires Inv-loop μ-loop
-first-state-requires c κs = search needs
+begin-requires : tie.Need-begin-requires Inv-loop μ-loop
+begin-requires c κs = search needs
 
 loop-holds : tie.Need-loop-holds Inv-loop μ-loop
 loop-holds c = search needs
 
-slice-aggregate-run-on : tie.Need-slice-aggregate-run-on Inv-loop μ-loop
-slice-aggregate-run-on c = search needs
+slice-aggregate-turned : tie.Need-slice-aggregate-turned Inv-loop μ-loop
+slice-aggregate-turned c = search needs
 
-slice-aggregate-run-on-2 : tie.Need-slice-aggregate-run-on-2 Inv-loop μ-loop
-slice-aggregate-run-on-2 c = search needs
-
-run-on-requires : tie.Need-run-on-requires Inv-loop μ-loop
-run-on-requires c κs = search needs
-
-slice-aggregate-step : tie.Need-slice-aggregate-step Inv-loop μ-loop
-slice-aggregate-step c = search needs
-
-advanced-requires : tie.Need-advanced-requires Inv-loop μ-loop
-advanced-requires c κs = search needs
-
-step-requires : tie.Need-step-requires Inv-loop μ-loop
-step-requires c κs = search needs
+turned-requires : tie.Need-turned-requires Inv-loop μ-loop
+turned-requires c κs = search needs
 
 turns-left-requires : tie.Need-turns-left-requires Inv-loop μ-loop
 turns-left-requires c κs = search needs
@@ -61,15 +45,10 @@ recorded-spec =
     Inv-loop
     μ-loop
     large-buffer-requires
-    no-words-requires
-    first-state-requires
+    begin-requires
     loop-holds
-    slice-aggregate-run-on
-    slice-aggregate-run-on-2
-    run-on-requires
-    slice-aggregate-step
-    advanced-requires
-    step-requires
+    slice-aggregate-turned
+    turned-requires
     turns-left-requires
     loop-less
     loop-again

@@ -1,9 +1,13 @@
--- `ask::piece_of` meets its contract: an opening takes two of the words that were lent. Assumes nothing.
-use native.Mathlib.Omega.{arith}
-use Rattle.ask.proofs.Fits.{opened-within}
+-- `asking::look` meets its contract: the words of a page are lent. Assumes nothing.
+use mathlib.Core.Path.{_≡_, refl}
+use lib.ListN.{length}
+use Rattle.asking.proofs.Lookups.{looks}
 use borrow.Author.Needs.{needs}
-use Rattle.ask.proofs.piece_of.Statement.{statement}
-use Rattle.ask.proofs.piece_of.Tie as tie
+use Rattle.asking.proofs.look.Statement.{statement}
+use Rattle.asking.proofs.look.Tie as tie
+
+room : (s : tie.Start) → 5952 ≡ length (s .args .words .now)
+room s = search needs
 
 least-requires : tie.Need-least-requires
 least-requires c κs = search needs
@@ -28,12 +32,13 @@ same-length c = search needs
 
 returns : tie.Need-returns
 returns c =
-    let fits = opened-within _ _ _ _ _ (c .before .before .openings .ensures .0) in
-    let lent = c .before .before .before .openings-arg .given .1 in
-    (omega (arith, fits, lent), omega (arith, fits, lent))
+    let o = c .before .before in
+    let k = o .before .before in
+    let s = k .before .before .before in
+    looks (s .args .board) (s .args .page) (k .least .result) (s .args .words .now) (k .least .ensures) (room s) (o .openings .ensures .0) (o .openings .ensures .1) refl
 
-pub piece-of-spec : {M : Type 1} → statement M
-piece-of-spec =
+pub look-spec : {M : Type 1} → statement M
+look-spec =
     tie.close
     (tie.spec
     least-requires
