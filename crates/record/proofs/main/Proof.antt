@@ -140,10 +140,14 @@ loop-again c =
     let p = c .before .before .before in
     let t = fedOf p in
     let g = filledOf t in
-    let o = turnOf g .before .loop .inv in
-    (
-      omega (arith, o .0, g .piece2 .given), omega (arith, o .1, t .out2 .given), p .pass .ensures .0,
-      omega (arith, p .pass .ensures .1, g .before .fill .ensures .1, o .0), o .4, o .5, o .6,
+    let o = turnOf g .before .loop .inv in (
+      omega (arith, o .0, g .piece2 .given),
+      omega (arith, o .1, t .out2 .given),
+      p .pass .ensures .0,
+      omega (arith, p .pass .ensures .1, g .before .fill .ensures .1, o .0),
+      o .4,
+      o .5,
+      o .6,
     )
 
 close-requires : tie.Need-close-requires Inv-loop μ-loop
