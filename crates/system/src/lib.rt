@@ -3,6 +3,7 @@
 ghost use mathlib.Core.Path.{_≡_};
 ghost use Prim.Native.Nat.{_+_, _≤_, _<_};
 ghost use lib.ListN.{length};
+use arguments::Asked;
 use libc::STDERR_FILENO;
 use libc::STDIN_FILENO;
 use libc::STDOUT_FILENO;
@@ -28,6 +29,28 @@ pub fn ordered(wordy: bool) -> Order {
         i += 1;
     }
     order
+}
+
+// One argument of `ask` more.
+fn asked_more(a: Asked, i: usize, text: &mut [u8]) -> Asked {
+    let mut argument = io::buffer();
+    let n = os::arg(i, &mut argument);
+    if os::errno() != 0 {
+        return arguments::refuse(a);
+    }
+    arguments::take(a, i, &argument[0..n], text)
+}
+
+// What the arguments of `ask` tell; the words of its question stand in the lent text.
+pub fn asked(text: &mut [u8]) -> Asked {
+    let count = os::arg_count();
+    let mut a = arguments::no_asked();
+    let mut i: usize = 1;
+    while i < count {
+        a = asked_more(a, i, text);
+        i += 1;
+    }
+    a
 }
 
 // The file that an argument names, standard input where it is 0; -1 where it cannot be opened, and standard error says why.

@@ -1,40 +1,45 @@
--- `ask::answer` is safe and ends: what was put lies in its buffer, and the turns fall. Assumes nothing.
+-- `ask::answer` meets its contract: what it hands on lies in its buffers. Assumes nothing.
+use mathlib.Core.Path.{_≡_}
+use lib.ListN.{length}
 use borrow.Author.Needs.{needs}
 use Rattle.ask.proofs.answer.Statement.{statement}
 use Rattle.ask.proofs.answer.Tie as tie
 
 abbrev Inv-loop : tie.InvT-loop
-Inv-loop out₀ said used asking₀ done turns₀ out asking turns = Unit {0}
+Inv-loop out₀ used said done asking₀ turns₀ t14 t15 out asking turns = (length t14 ≡ 5) × (length t15 ≡ 0)
 
 abbrev μ-loop : tie.MeasureT-loop
-μ-loop out₀ said used asking₀ done turns₀ out asking turns = turns
+μ-loop out₀ used said done asking₀ turns₀ t14 t15 out asking turns = turns
+
+large-buffer-requires : tie.Need-large-buffer-requires Inv-loop μ-loop
+large-buffer-requires c κs = search needs
 
 close-requires : tie.Need-close-requires Inv-loop μ-loop
 close-requires c κs = search needs
 
-sub-write-all : tie.Need-sub-write-all Inv-loop μ-loop
-sub-write-all c = search needs
+slice-aggregate-write : tie.Need-slice-aggregate-write Inv-loop μ-loop
+slice-aggregate-write c = search needs
 
-part-write-all-start : tie.Need-part-write-all-start Inv-loop μ-loop
-part-write-all-start c = search needs
+sub-write : tie.Need-sub-write Inv-loop μ-loop
+sub-write c = search needs
 
-part-write-all-end : tie.Need-part-write-all-end Inv-loop μ-loop
-part-write-all-end c = search needs
+part-write-start : tie.Need-part-write-start Inv-loop μ-loop
+part-write-start c = search needs
 
-write-all-requires : tie.Need-write-all-requires Inv-loop μ-loop
-write-all-requires c κs = search needs
+part-write-end : tie.Need-part-write-end Inv-loop μ-loop
+part-write-end c = search needs
 
-sub-say : tie.Need-sub-say Inv-loop μ-loop
-sub-say c = search needs
+sub-write-2 : tie.Need-sub-write-2 Inv-loop μ-loop
+sub-write-2 c = search needs
 
-part-say-start : tie.Need-part-say-start Inv-loop μ-loop
-part-say-start c = search needs
+part-write-start-2 : tie.Need-part-write-start-2 Inv-loop μ-loop
+part-write-start-2 c = search needs
 
-part-say-end : tie.Need-part-say-end Inv-loop μ-loop
-part-say-end c = search needs
+part-write-end-2 : tie.Need-part-write-end-2 Inv-loop μ-loop
+part-write-end-2 c = search needs
 
-say-requires : tie.Need-say-requires Inv-loop μ-loop
-say-requires c κs = search needs
+write-requires : tie.Need-write-requires Inv-loop μ-loop
+write-requires c κs = search needs
 
 turns-left-requires : tie.Need-turns-left-requires Inv-loop μ-loop
 turns-left-requires c κs = search needs
@@ -45,17 +50,23 @@ loop-holds c = search needs
 next-requires : tie.Need-next-requires Inv-loop μ-loop
 next-requires c κs = search needs
 
-sub-say-2 : tie.Need-sub-say-2 Inv-loop μ-loop
-sub-say-2 c = search needs
+slice-aggregate-write-2 : tie.Need-slice-aggregate-write-2 Inv-loop μ-loop
+slice-aggregate-write-2 c = search needs
 
-part-say-start-2 : tie.Need-part-say-start-2 Inv-loop μ-loop
-part-say-start-2 c = search needs
+sub-write-3 : tie.Need-sub-write-3 Inv-loop μ-loop
+sub-write-3 c = search needs
 
-part-say-end-2 : tie.Need-part-say-end-2 Inv-loop μ-loop
-part-say-end-2 c = search needs
+part-write-start-3 : tie.Need-part-write-start-3 Inv-loop μ-loop
+part-write-start-3 c = search needs
 
-say-requires-2 : tie.Need-say-requires-2 Inv-loop μ-loop
-say-requires-2 c κs = search needs
+part-write-end-3 : tie.Need-part-write-end-3 Inv-loop μ-loop
+part-write-end-3 c = search needs
+
+slice-aggregate-write-3 : tie.Need-slice-aggregate-write-3 Inv-loop μ-loop
+slice-aggregate-write-3 c = search needs
+
+write-requires-2 : tie.Need-write-requires-2 Inv-loop μ-loop
+write-requires-2 c κs = search needs
 
 turns-left-requires-2 : tie.Need-turns-left-requires-2 Inv-loop μ-loop
 turns-left-requires-2 c κs = search needs
@@ -75,22 +86,25 @@ answer-spec =
     (tie.spec
     Inv-loop
     μ-loop
+    large-buffer-requires
     close-requires
-    sub-write-all
-    part-write-all-start
-    part-write-all-end
-    write-all-requires
-    sub-say
-    part-say-start
-    part-say-end
-    say-requires
+    slice-aggregate-write
+    sub-write
+    part-write-start
+    part-write-end
+    sub-write-2
+    part-write-start-2
+    part-write-end-2
+    write-requires
     turns-left-requires
     loop-holds
     next-requires
-    sub-say-2
-    part-say-start-2
-    part-say-end-2
-    say-requires-2
+    slice-aggregate-write-2
+    sub-write-3
+    part-write-start-3
+    part-write-end-3
+    slice-aggregate-write-3
+    write-requires-2
     turns-left-requires-2
     loop-less
     loop-again
