@@ -1,0 +1,154 @@
+#!/usr/bin/env bash
+# runs.sh [COMMAND]: the programs as people use them, through COMMAND (./run unless it is named, which proves and builds them
+# where that is to do). Each check says what it wants; the first that fails ends it with 1. What the texts have to be stands here.
+set -euo pipefail
+cd "$(dirname "$0")/../.."
+run=${1:-./run}
+work=$(mktemp -d)
+trap 'rm -rf "$work"' EXIT
+checks=0
+# check NAME WANTED GOT: two texts are the same
+check() {
+    checks=$((checks + 1))
+    [ "$2" = "$3" ] || { printf 'runs: %s\n--- wanted\n%s\n--- got\n%s\n' "$1" "$2" "$3" >&2; exit 1; }
+}
+# tell COMMAND ..: its standard output, then its standard error behind a line `!`, then its status where it is not 0
+tell() {
+    local status=0
+    "$@" >"$work/out" 2>"$work/err" || status=$?
+    cat "$work/out"
+    [ ! -s "$work/err" ] || { echo "!"; cat "$work/err"; }
+    [ "$status" = 0 ] || echo "status $status"
+}
+header="event kind answer column start finish"
+
+# a session, as text and as records
+cat >"$work/session.txt" <<'END'
+board 4 1
+submit stuffing 1 2 1 2 9     # PLANNER ID W H E D
+submit stuffing 2 3 1 4 9
+submit full 3 1 1 5 5
+clock 2
+END
+$run record "$work/session.txt" >"$work/session"
+lines="$header
+1 1 0 0 0 0
+2 2 0 1 0 2
+3 2 0 1 2 6
+4 2 0 4 0 5
+5 3 0 0 0 0"
+check "plan FILE" "$lines" "$(tell $run plan "$work/session")"
+for size in 1 37; do
+    check "plan, a pipe in pieces of $size" "$lines" "$(dd bs=$size if="$work/session" 2>/dev/null | $run plan)"
+    check "record, a pipe in pieces of $size" "$(od -An -tx1 "$work/session")" "$(dd bs=$size if="$work/session.txt" 2>/dev/null | $run record | od -An -tx1)"
+    check "ask, a pipe in pieces of $size" "answer 0
+4 1 2
+2 2 3 1 4 9 1 2 6 running
+3 3 1 1 5 5 4 0 5 running" "$(dd bs=$size if="$work/session" 2>/dev/null | $run ask board)"
+done
+check "plan --words" "$header id answer
+1 1 0 0 0 0 - 0 done
+2 2 0 1 0 2 1 0 done
+3 2 0 1 2 6 2 0 done
+4 2 0 4 0 5 3 0 done
+5 3 0 0 0 0 - 0 done" "$(tell $run plan --words "$work/session")"
+
+# every question, with an answer 0 and with a refusal
+ask() { tell $run ask --from "$work/session" "$@"; }
+check "ask horizon" "answer 0
+4 4 5
+1 3 6" "$(ask horizon)"
+check "ask busy" "answer 0
+3" "$(ask busy 5)"
+check "ask busy, before now" "answer 11" "$(ask busy 1)"
+check "ask busy, too late" "answer 12" "$(ask busy 2000000001)"
+check "ask openings" "answer 0
+6 1
+6 2
+6 3
+end" "$(ask openings 2 1 3 9)"
+check "ask openings, from a pair on, one of them" "answer 0
+6 2
+more" "$(ask openings 2 1 3 9 6 1 1)"
+check "ask openings, too wide" "answer 5" "$(ask openings 5 1 3 9)"
+check "ask openings, e 0" "answer 6" "$(ask openings 2 1 0 9)"
+check "ask openings, too late" "answer 8" "$(ask openings 2 1 3 4)"
+check "ask stamp" "answer 0
+4 1 2
+2 2 3 1 4 9 1 2 6 ended
+3 3 1 1 5 5 4 0 5 ended" "$(ask stamp 6)"
+check "1,001 openings are told as 1,000 and more" "1002 more" "$(printf 'board 1 1\n' | $run record | $run ask openings 1 1 1 2000 | awk 'END { print NR, $0 }')"
+check "200,000 openings" "200002 end" "$(printf 'board 1 1\n' | $run record | $run ask openings 1 1 1 200000 0 0 4294967295 | awk 'END { print NR, $0 }')"
+: >"$work/none"
+for question in horizon "busy 0" "openings 1 1 1 1" board "stamp 0"; do
+    check "ask $question of no board" "answer 1" "$(tell $run ask --from "$work/none" $question)"
+done
+
+# 15, 16, and a wrong line: nothing partial looks whole
+head -c 10 "$work/session" >"$work/cut"
+check "plan, cut short" "$header
+1 1 0 0 0 0
+2 2 15 0 0 0
+!
+plan: event 2 (kind 2) is cut short (15): the recording is not whole
+status 1" "$(tell $run plan "$work/cut")"
+check "ask, cut short" "!
+ask: event 2 (kind 2) is cut short (15): not answered
+status 1" "$(tell $run ask --from "$work/cut" board)"
+{ head -c 5 "$work/session"; printf '\011'; tail -c +6 "$work/session"; } >"$work/strange"
+check "plan, an unknown kind" "$header
+1 1 0 0 0 0
+2 9 16 0 0 0
+!
+plan: event 2 (kind 9) is of no known kind (16): the rest was not read
+status 1" "$(tell $run plan "$work/strange")"
+check "ask, an unknown kind" "!
+ask: event 2 (kind 9) is of no known kind (16): not answered
+status 1" "$(tell $run ask --from "$work/strange" board)"
+printf 'board 4 1\nsubmit refrence 1 2 1 2 9\nclock 2\n' >"$work/typo.txt"
+$run record "$work/typo.txt" >"$work/typo" 2>"$work/message" && check "record, a wrong line: status" 1 0
+check "record, a wrong line: message" "record: line 2, word 2: 'refrence': expected PLANNER, reference, horizon, stuffing, full or a number from 0 to 255 (submit PLANNER ID W H E D); records written: 1" "$(cat "$work/message")"
+check "record, a wrong line: records" " 01 04 00 01 00 00" "$(od -An -tx1 "$work/typo")"
+check "plan of it" "$header
+1 1 0 0 0 0
+2 0 16 0 0 0
+!
+plan: event 2 (kind 0) is of no known kind (16): the rest was not read
+status 1" "$(tell $run plan "$work/typo")"
+check "record, a missing word" "!
+record: line 1, word 3: the line ends: expected H, a number from 0 to 65535 (board W H); records written: 0
+status 1" "$(printf 'board 4\n' | tell $run record | tr -d '\000')"
+check "record, a last line without a line feed" " 03 02 00 00 00" "$(printf 'clock 2' | $run record | od -An -tx1)"
+check "record, a byte order mark and CR LF" " 03 02 00 00 00" "$(printf '\357\273\277clock 2\r\n' | $run record | od -An -tx1)"
+
+# many events, and a slow pipe
+{ echo "board 1 1"; yes "clock 0" | head -n 300000 || true; } | $run record >"$work/many"
+check "300,001 events" "300002 300001 3 0 0 0 0" "$($run plan "$work/many" | awk 'END { print NR, $0 }')"
+mkfifo "$work/slow"
+$run plan "$work/slow" >"$work/live" &
+exec 7>"$work/slow"
+head -c 5 "$work/session" >&7
+for _ in $(seq 300); do [ "$(wc -l <"$work/live")" -ge 2 ] && break; sleep 0.1; done
+check "a slow pipe: the line comes as its record comes" "$header
+1 1 0 0 0 0" "$(cat "$work/live")"
+exec 7>&-
+wait
+
+# arguments
+for program in plan record ask; do
+    check "$program --help" "$program" "$($run $program --help | awk 'NR == 1 { print $1 }')"
+    check "$program --help has the answers" "  3 no such planner" "$($run $program --help | grep '^  3 ')"
+    check "$program with a stray argument" "!
+usage: $program" "$(tell $run $program --stray | sed -n '1p; 2s/^\(usage: [a-z]*\) .*/\1/p')"
+done
+check "plan, two files" "!
+usage: plan [--words] [FILE]; plan --help says more
+status 1" "$(tell $run plan "$work/session" "$work/session")"
+check "plan, no such file" "!
+plan: $work/missing: No such file or directory
+status 1" "$(tell $run plan "$work/missing")"
+check "ask, no such file" "!
+ask: $work/missing: No such file or directory
+status 1" "$(tell $run ask --from "$work/missing" board)"
+check "ask, a wrong question" "status 1" "$(tell $run ask busy x <"$work/session" | tail -n 1)"
+echo "runs: $checks checks"
