@@ -1,7 +1,7 @@
 #!/bin/bash
 # bench.sh: our planners and openings beside a plain Rust program (tests/time/baseline_calls.rs), as ratios of time.
 # One command, about a minute. Both draw the same sessions and ask for the same openings; the checksums of all answers must agree.
-# On x86-64 ours is target/bin/bench, as `rt check bench` built it; elsewhere ../shared/tools/native-build.sh compiles it.
+# On x86-64 ours is target/bin/bench, as `rt check bench` built it; elsewhere tests/native/build.sh compiles it.
 set -euo pipefail
 root=$(cd "$(dirname "$0")/../.." && pwd -P)
 work=$(mktemp -d)
@@ -11,8 +11,6 @@ if [ "$(uname -m)" = x86_64 ]; then
     (cd "$root" && rt check bench) >"$work/log" 2>&1 || { tail -5 "$work/log" >&2; exit 1; }
     cp "$root/target/bin/bench" "$work/ours"
 else
-    build=${NATIVE_BUILD:-$root/../shared/tools/native-build.sh}
-    [ -x "$build" ] || { echo "bench.sh: $build is missing, and the kit's own programs are for x86-64" >&2; exit 2; }
-    "$build" "$root" bench "$work/ours"
+    "$root/tests/native/build.sh" bench "$work/ours" || { echo "bench.sh: the kit's own programs are for x86-64" >&2; exit 2; }
 fi
 exec python3 "$root/tests/time/table.py" "$work/ours" "$work/rust"
