@@ -40,7 +40,8 @@ module _ (p : List ℕ) where
   unfolding plannerOf
   planner-2 n0 n1 y = rw (n0, n1, y)
 
-  pub planner-3 : same p (ascii "reference") ≡ false → same p (ascii "horizon") ≡ false → same p (ascii "stuffing") ≡ false → same p (ascii "full") ≡ true → _≡_ {A = ℕ} 3 (plannerOf p)
+  pub planner-3 : same p (ascii "reference") ≡ false → same p (ascii "horizon") ≡ false → same p (ascii "stuffing") ≡ false → same p (ascii "full") ≡ true
+      → _≡_ {A = ℕ} 3 (plannerOf p)
   unfolding plannerOf
   planner-3 n0 n1 n2 y = rw (n0, n1, n2, y)
 
@@ -72,12 +73,14 @@ module _ (name : List ℕ) (ws : List (List ℕ)) where
   unfolding saidBy
   said-clock e n0 n1 y = rw (e, n0, n1, y)
 
-  pub said-withdraw : empty name ≡ false → same name (ascii "board") ≡ false → same name (ascii "submit") ≡ false → same name (ascii "clock") ≡ false → same name (ascii "withdraw") ≡ true
+  pub said-withdraw : empty name ≡ false → same name (ascii "board") ≡ false → same name (ascii "submit") ≡ false → same name (ascii "clock") ≡ false
+      → same name (ascii "withdraw") ≡ true
       → withdrawLine ws ≡ saidBy name ws
   unfolding saidBy
   said-withdraw e n0 n1 n2 y = rw (e, n0, n1, n2, y)
 
-  pub said-other : empty name ≡ false → same name (ascii "board") ≡ false → same name (ascii "submit") ≡ false → same name (ascii "clock") ≡ false → same name (ascii "withdraw") ≡ false
+  pub said-other : empty name ≡ false → same name (ascii "board") ≡ false → same name (ascii "submit") ≡ false → same name (ascii "clock") ≡ false
+      → same name (ascii "withdraw") ≡ false
       → Wrong 0 1 ≡ saidBy name ws
   unfolding saidBy
   said-other e n0 n1 n2 n3 = rw (e, n0, n1, n2, n3)

@@ -53,8 +53,8 @@ one-worded : (l : Line) (w : Bool) → w ≡ true → wordedText l ≡ listingTe
 unfolding listingText each
 one-worded l w e = rw e (sym (append-nil (wordedText l)))
 
-pub cut-plain : (w : Bool) (n k : ℕ) {l a b m : List ℕ} {p q r : ℕ} → w ≡ false → Put l 0 (decimal (suc n)) a p → Put a p (32 ∷ []) b q → Put b q (rowText (k ∷ 15 ∷ 0 ∷ 0 ∷ 0 ∷ [])) m r
-    → Put l 0 (listingText w (stopLine (suc n) k 15 ∷ [])) m r
+pub cut-plain : (w : Bool) (n k : ℕ) {l a b m : List ℕ} {p q r : ℕ} → w ≡ false → Put l 0 (decimal (suc n)) a p → Put a p (32 ∷ []) b q
+    → Put b q (rowText (k ∷ 15 ∷ 0 ∷ 0 ∷ 0 ∷ [])) m r → Put l 0 (listingText w (stopLine (suc n) k 15 ∷ [])) m r
 unfolding rowText stopLine
 cut-plain w n k {l} {a} {b} {m} {p} {q} {r} e x y z =
     subst (λ t. Put l 0 t m r) (one-plain (stopLine (suc n) k 15) w e)
@@ -64,8 +64,8 @@ ending : lineText (idText none ∷ decimal 15 ∷ answerWords 15 ∷ []) ≡ asc
 unfolding lineText idText decimal decimalIn answerWords
 ending = refl
 
-pub cut-worded : (w : Bool) (n k : ℕ) {l a b c m : List ℕ} {p q r s : ℕ} → w ≡ true → Put l 0 (decimal (suc n)) a p → Put a p (32 ∷ []) b q → Put b q (spaced (k ∷ 15 ∷ 0 ∷ 0 ∷ 0 ∷ [])) c r
-    → Put c r (ascii "- 15 the record is cut short\n") m s → Put l 0 (listingText w (stopLine (suc n) k 15 ∷ [])) m s
+pub cut-worded : (w : Bool) (n k : ℕ) {l a b c m : List ℕ} {p q r s : ℕ} → w ≡ true → Put l 0 (decimal (suc n)) a p → Put a p (32 ∷ []) b q
+    → Put b q (spaced (k ∷ 15 ∷ 0 ∷ 0 ∷ 0 ∷ [])) c r → Put c r (ascii "- 15 the record is cut short\n") m s → Put l 0 (listingText w (stopLine (suc n) k 15 ∷ [])) m s
 unfolding wordedText stopLine
 cut-worded w n k {l} {a} {b} {c} {m} {p} {q} {r} {s} e x y z t =
     subst (λ t. Put l 0 t m s) (one-worded (stopLine (suc n) k 15) w e)

@@ -26,11 +26,19 @@ use Rattle.session.proofs.Running.{ran-got}
 use Rattle.worded.specs.Worded.{rowOf, wordedText}
 use Rattle.worded.specs.Rows.{wordedRow, idRead, sizeRead, wordedRows}
 use Rattle.reader.specs.declared.Reader.{Reader}
-use Rattle.reader.specs.Reader.{heldOf, Heard, sourceOf, holdsOn, stopsBefore, heardOver, goesOnWith, open?, laterEnd, passedOver, heard}
-use Rattle.reader.proofs.Hearing.{stops-known}
-use Rattle.reader.proofs.Ends.{heard-open, heard-closed, alone, behind}
+use Rattle.reader.specs.Reader.{heldOf, Heard, sourceOf, meetsStranger, heardOver, heard}
+use Rattle.reader.proofs.Cases.{over-by, heard-by}
 use Rattle.listing.specs.Listing.{headerText, listingText}
 use Rattle.listing.specs.Code.{textOf}
+
+-- where nothing is held, a piece is read by itself
+pub source-alone : (r : Reader) (p : List ℕ) → length (heldOf r) ≡ 0 → sourceOf r p ≡ p
+unfolding sourceOf
+source-alone r p e = rw (eq-eqb (length (heldOf r)) 0 e)
+
+pub source-behind : (r : Reader) (p : List ℕ) → (length (heldOf r) ≡ 0 → ⊥) → sourceOf r p ≡ take 18 (heldOf r ++ p)
+unfolding sourceOf
+source-behind r p e = rw (ne-eqb (length (heldOf r)) 0 e)
 
 -- PLAIN LINES
 plain : (ls : List Line) (rest : List ℕ) → rowsText (rowsOf 6 (length ls) (lineNumbers ls ++ rest)) ≡ each ls (λ l. rowText (rowOf l))
@@ -69,7 +77,9 @@ worded-run zero b n bytes ls rest = refl
 worded-run (suc room) b n bytes ls rest = go (λ c m ws. worded-run room c m ws ls rest) (readFrom bytes) refl
   where
     Runs : Run → List ℕ → Type 0
-    Runs run ws = wordedRows (length (run .lines ++ ls)) (lineNumbers (run .lines ++ ls) ++ rest) ws ≡ each (run .lines) wordedText ++ wordedRows (length ls) (lineNumbers ls ++ rest) (drop (run .taken) ws)
+    Runs run ws =
+        wordedRows (length (run .lines ++ ls)) (lineNumbers (run .lines ++ ls) ++ rest) ws
+        ≡ each (run .lines) wordedText ++ wordedRows (length ls) (lineNumbers ls ++ rest) (drop (run .taken) ws)
 
     stopped : ranFrom (suc room) b n bytes ≡ still b → Runs (ranFrom (suc room) b n bytes) bytes
     stopped e = subst (λ x. Runs x bytes) (sym e) refl
@@ -96,7 +106,9 @@ worded-run (suc room) b n bytes ls rest = go (λ c m ws. worded-run room c m ws 
         one =
             worded-one line (later .lines ++ ls) rest bytes its-id
             ∙ ap (λ m. wordedText line ++ wordedRows (length (later .lines ++ ls)) (lineNumbers (later .lines ++ ls) ++ rest) (drop m bytes)) its-size
-            ∙ ap (λ x. wordedText line ++ x) (next (outcome b v .state) (suc n) (drop size bytes) ∙ ap (λ ws. each (later .lines) wordedText ++ wordedRows (length ls) (lineNumbers ls ++ rest) ws) (drop-drop (later .taken) size bytes))
+            ∙ ap (λ x. wordedText line ++ x)
+            (next (outcome b v .state) (suc n) (drop size bytes)
+            ∙ ap (λ ws. each (later .lines) wordedText ++ wordedRows (length ls) (lineNumbers ls ++ rest) ws) (drop-drop (later .taken) size bytes))
             ∙ sym (append-assoc (wordedText line) (each (later .lines) wordedText) _)
 
 each-append : (xs ys : List Line) (f : Line → List ℕ) → each (xs ++ ys) f ≡ each xs f ++ each ys f
@@ -105,8 +117,8 @@ each-append [] ys f = refl
 each-append (x ∷ xs) ys f = ap (λ l. f x ++ l) (each-append xs ys f) ∙ sym (append-assoc (f x) (each xs f) (each ys f))
 
 -- the lines of a piece say what their numbers and the bytes of their events say
-abbrev Says : Heard → List ℕ → List ℕ → Type 0
-Says h bytes rest = wordedRows (length (h .lines)) (lineNumbers (h .lines) ++ rest) bytes ≡ each (h .lines) wordedText
+abbrev Says : List ℕ → List ℕ → Heard → Type 0
+Says bytes rest h = wordedRows (length (h .lines)) (lineNumbers (h .lines) ++ rest) bytes ≡ each (h .lines) wordedText
 
 each-one : (l : Line) → each (l ∷ []) wordedText ≡ wordedText l ++ []
 unfolding each
@@ -116,18 +128,8 @@ no-lines : (rest bytes : List ℕ) → wordedRows 0 (lineNumbers [] ++ rest) byt
 unfolding wordedRows each
 no-lines rest bytes = refl
 
-stranger : (r : Reader) (run : Run) (left : List ℕ) (taken k : ℕ) (bytes rest : List ℕ) → let ls = run .lines ++ (stopLine (suc (r .number + length (run .lines))) k 16 ∷ []) in
-    wordedRows (length ls) (lineNumbers ls ++ rest) bytes ≡ each ls wordedText → Says (stopsBefore r run left taken (Unknown k)) bytes rest
-unfolding stopsBefore
-stranger r run left taken k bytes rest e = e
-
-known : (r : Reader) (run : Run) (left : List ℕ) (taken : ℕ) (x : Reading) → ((k : ℕ) → x ≡ Unknown k → ⊥) → (bytes rest : List ℕ)
-    → wordedRows (length (run .lines)) (lineNumbers (run .lines) ++ rest) bytes ≡ each (run .lines) wordedText → Says (stopsBefore r run left taken x) bytes rest
-known r run left taken x f bytes rest e = subst (λ h. Says h bytes rest) (sym (stops-known r run left taken x f)) e
-
-worded-over : (r : Reader) (kept : ℕ) (bytes : List ℕ) (words : ℕ) (rest : List ℕ) → Says (heardOver r kept bytes words) bytes rest
-unfolding heardOver
-worded-over r kept bytes words rest = go (decLt (length (run .lines)) room)
+worded-over : (r : Reader) (kept : ℕ) (bytes : List ℕ) (words : ℕ) (rest : List ℕ) → Says bytes rest (heardOver r kept bytes words)
+worded-over r kept bytes words rest = over-by (Says bytes rest) r kept bytes words (λ q. only) strange (λ q f. only)
   where
     room : ℕ
     room = roomFor words (r .number)
@@ -135,51 +137,38 @@ worded-over r kept bytes words rest = go (decLt (length (run .lines)) room)
     run : Run
     run = ranFrom room (r .state) (r .number) bytes
 
+    left : List ℕ
+    left = drop (run .taken) bytes
+
     -- the lines of the run alone
     only : wordedRows (length (run .lines)) (lineNumbers (run .lines) ++ rest) bytes ≡ each (run .lines) wordedText
     only =
         ap (λ ls. wordedRows (length ls) (lineNumbers ls ++ rest) bytes) (sym (append-nil (run .lines)))
         ∙ worded-run room (r .state) (r .number) bytes [] rest
-        ∙ ap (λ x. each (run .lines) wordedText ++ x) (worded-none (lineNumbers [] ++ rest) (drop (run .taken) bytes)) ∙ append-nil (each (run .lines) wordedText)
+        ∙ ap (λ x. each (run .lines) wordedText ++ x) (worded-none (lineNumbers [] ++ rest) left) ∙ append-nil (each (run .lines) wordedText)
 
-    strange : (k : ℕ) → readFrom (drop (run .taken) bytes) ≡ Unknown k → Says (stopsBefore r run (drop (run .taken) bytes) (length bytes - kept) (Unknown k)) bytes rest
-    strange k e = stranger r run (drop (run .taken) bytes) (length bytes - kept) k bytes rest
-        (worded-run room (r .state) (r .number) bytes (line ∷ []) rest ∙ ap (λ x. each (run .lines) wordedText ++ x) last ∙ sym (each-append (run .lines) (line ∷ []) wordedText))
+    -- and the line of a stranger behind them
+    strange : length (run .lines) < room → (k : ℕ) → readFrom left ≡ Unknown k → Says bytes rest (meetsStranger r run (length bytes - kept) k)
+    strange q k e =
+        worded-run room (r .state) (r .number) bytes (line ∷ []) rest ∙ ap (λ x. each (run .lines) wordedText ++ x) last
+        ∙ sym (each-append (run .lines) (line ∷ []) wordedText)
       where
         line : Line
         line = stopLine (suc (r .number + length (run .lines))) k 16
 
-        last : wordedRows 1 (lineNumbers (line ∷ []) ++ rest) (drop (run .taken) bytes) ≡ each (line ∷ []) wordedText
+        last : wordedRows 1 (lineNumbers (line ∷ []) ++ rest) left ≡ each (line ∷ []) wordedText
         last =
-            worded-one line [] rest (drop (run .taken) bytes) (stop-id (suc (r .number + length (run .lines))) k 16 ∙ ap idRead (sym e))
-            ∙ ap (λ x. wordedText line ++ x) (worded-none (lineNumbers [] ++ rest) (drop (sizeRead (readFrom (drop (run .taken) bytes))) (drop (run .taken) bytes))) ∙ sym (each-one line)
+            worded-one line [] rest left (stop-id (suc (r .number + length (run .lines))) k 16 ∙ ap idRead (sym e))
+            ∙ ap (λ x. wordedText line ++ x) (worded-none (lineNumbers [] ++ rest) (drop (sizeRead (readFrom left)) left)) ∙ sym (each-one line)
 
-    stops : (x : Reading) → readFrom (drop (run .taken) bytes) ≡ x → Says (stopsBefore r run (drop (run .taken) bytes) (length bytes - kept) x) bytes rest
-    stops (Unknown k) e = strange k e
-    stops End e = known r run (drop (run .taken) bytes) (length bytes - kept) End (λ k q. let z : _≡_ {A = ℕ} 0 1 = cc in omega arith) bytes rest only
-    stops (Got v m) e = known r run (drop (run .taken) bytes) (length bytes - kept) (Got v m) (λ k q. let z : _≡_ {A = ℕ} 0 1 = cc in omega arith) bytes rest only
-    stops (CutShort j) e = known r run (drop (run .taken) bytes) (length bytes - kept) (CutShort j) (λ k q. let z : _≡_ {A = ℕ} 0 1 = cc in omega arith) bytes rest only
-
-    go : Dec (length (run .lines) < room) → Says (heardOver r kept bytes words) bytes rest
-    go (yes q) = rw (lt-ltb (length (run .lines)) room q) (stops (readFrom (drop (run .taken) bytes)) refl)
-    go (no q) = rw (le-ltb (length (run .lines)) room (omega arith)) only
-
-worded-heard : (r : Reader) (p : List ℕ) (words : ℕ) (rest : List ℕ) → Says (heard r p words) (sourceOf r p) rest
-unfolding sourceOf
-worded-heard r p words rest = go (open? (r .end)) refl
-  where
-    opened : Dec (length (heldOf r) ≡ 0) → Says (goesOnWith r p words) (cond (eqb (length (heldOf r)) 0) p (take 18 (heldOf r ++ p))) rest
-    opened (yes q) = rw (eq-eqb (length (heldOf r)) 0 q) (subst (λ h. Says h p rest) (sym (alone r p words q)) (worded-over r 0 p words rest))
-    opened (no q) =
-        rw (ne-eqb (length (heldOf r)) 0 q)
-        (subst (λ h. Says h (take 18 (heldOf r ++ p)) rest) (sym (behind r p words q)) (worded-over r (length (heldOf r)) (take 18 (heldOf r ++ p)) (min words 6) rest))
-
-    closed : (e : open? (r .end) ≡ false) → Says (passedOver r p (laterEnd (r .end) p)) (sourceOf r p) rest
-    closed e = no-lines rest (sourceOf r p)
-
-    go : (b : Bool) → open? (r .end) ≡ b → Says (heard r p words) (sourceOf r p) rest
-    go true e = subst (λ h. Says h (sourceOf r p) rest) (sym (heard-open r p words e)) (opened (decEq (length (heldOf r)) 0))
-    go false e = subst (λ h. Says h (sourceOf r p) rest) (sym (heard-closed r p words e)) (closed e)
+worded-heard : (r : Reader) (p : List ℕ) (words : ℕ) (rest : List ℕ) → Says (sourceOf r p) rest (heard r p words)
+worded-heard r p words rest =
+    heard-by (Says (sourceOf r p) rest) r p words
+    (λ o q. subst (λ l. Says l rest (heardOver r 0 p words)) (sym (source-alone r p q)) (worded-over r 0 p words rest))
+    (λ o q.
+    subst (λ l. Says l rest (heardOver r (length (heldOf r)) (take 18 (heldOf r ++ p)) (min words 6))) (sym (source-behind r p q))
+    (worded-over r (length (heldOf r)) (take 18 (heldOf r ++ p)) (min words 6) rest))
+    (λ c. no-lines rest (sourceOf r p))
 
 -- THE TEXT OF A PIECE
 pub told-text : (words : Bool) (r : Reader) (p : List ℕ) (w : ℕ) (rest : List ℕ) → let h = heard r p w in
@@ -218,12 +207,3 @@ room-words w count room e h = subst (λ b. count * cond b 128 66 ≤ room) e h
 
 pub room-plain : (w : Bool) (count room : ℕ) → w ≡ false → count * cond w 128 66 ≤ room → count * 66 ≤ room
 room-plain w count room e h = subst (λ b. count * cond b 128 66 ≤ room) e h
-
--- where nothing is held, a piece is read by itself
-pub source-alone : (r : Reader) (p : List ℕ) → length (heldOf r) ≡ 0 → sourceOf r p ≡ p
-unfolding sourceOf
-source-alone r p e = rw (eq-eqb (length (heldOf r)) 0 e)
-
-pub source-behind : (r : Reader) (p : List ℕ) → (length (heldOf r) ≡ 0 → ⊥) → sourceOf r p ≡ take 18 (heldOf r ++ p)
-unfolding sourceOf
-source-behind r p e = rw (ne-eqb (length (heldOf r)) 0 e)

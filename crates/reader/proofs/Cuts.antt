@@ -23,9 +23,9 @@ use Rattle.session.specs.declared.Ending.the-variants.{NotYet, AtEnd, In15, In1
 use Rattle.session.specs.Recording.{Line, stopLine, Story, endsIn, storyFrom, story, Run, ranFrom, roomFor, mostEvents, firstState}
 use Rattle.session.proofs.Recorded.{told, run-story, run-few, run-stops, run-inside, Began, run-began, story-none, story-cut, story-strange, story-end}
 use Rattle.reader.specs.declared.Reader.{Reader}
-use Rattle.reader.specs.Reader.{firstReader, heldOf, Heard, after, holdsOn, stopsBefore, heardOver, goesOnWith, passedOver, open?, laterEnd, heard, endIn, endOf, lastLines}
-use Rattle.reader.proofs.Hearing.{stops-known}
-use Rattle.reader.proofs.Ends.{heard-open, heard-closed, end-open, end-closed, alone, behind}
+use Rattle.reader.specs.Reader.{firstReader, heldOf, Heard, after, isFull, holdsOn, meetsStranger, heardOver, passedOver, open?, laterEnd, heard, endIn, endOf, lastLines}
+use Rattle.reader.proofs.Cases.{over-by, heard-by}
+use Rattle.reader.proofs.Ends.{end-open, end-closed}
 
 -- what a reader has still to tell, where these bytes are all that comes
 unfoldable pub restOf : Reader → List ℕ → Story
@@ -63,6 +63,11 @@ open-not-15 e h k q = let x : open? e ≡ false = ap open? q in let y : true ≡
 open-not-last : (e : Ending) → open? e ≡ true → e ≡ AtLast → ⊥
 unfolding open?
 open-not-last e h q = let x : open? e ≡ false = ap open? q in let y : true ≡ false = sym h ∙ x in let z : _≡_ {A = ℕ} 0 1 = cc in omega arith
+
+-- A PIECE: what it tells, and what is then left to tell
+pub record Goes (r : Reader) (bytes : List ℕ) (h : Heard) : Type 0 where
+  pub tells : restOf r bytes ≡ told (h .lines) (h .events) (restOf (h .reader) (drop (h .taken) bytes))
+  pub sane : Sane (h .reader)
 
 -- A RUN OVER THE HELD BYTES AND SOME MORE
 module _ (r : Reader) (s : Sane r) (o : open? (r .end) ≡ true) (p more : List ℕ) (words : ℕ) where
@@ -135,8 +140,8 @@ module _ (r : Reader) (s : Sane r) (o : open? (r .end) ≡ true) (p more : List 
     unfolding open?
     open-end q = rw (lt-ltb n mostEvents q)
 
-    full-step : (restOf r (p ++ more) ≡ told (run .lines) (run .events) (restOf then (drop (run .taken - kept) (p ++ more)))) × Sane then
-    full-step = (follows ∙ ap (told (run .lines) (run .events)) (go (decLt n mostEvents)), sane)
+    full-step : Goes r (p ++ more) (isFull r kept run)
+    full-step = record { tells = follows ∙ ap (told (run .lines) (run .events)) (go (decLt n mostEvents)); sane = sane-then }
       where
         go : Dec (n < mostEvents) → storyFrom (mostEvents - n) (run .state) n (rest ++ more) ≡ restOf then (drop (run .taken - kept) (p ++ more))
         go (yes q) = sym (rest-open then (drop (run .taken - kept) (p ++ more)) opened ∙ ap (storyFrom (mostEvents - n) (run .state) n) left-over)
@@ -146,7 +151,8 @@ module _ (r : Reader) (s : Sane r) (o : open? (r .end) ≡ true) (p more : List 
         go (no q) =
             let over = past-held (inr (omega (arith, full, s .going o))) in
             let none : mostEvents - n ≡ 0 = omega arith in
-            let all : drop (run .taken - kept) (p ++ more) ≡ rest ++ more = subst (λ b. take (cond b (r .size) 0) (r .held) ++ drop (run .taken - kept) (p ++ more) ≡ rest ++ more) (ne-eqb (run .taken) 0 (λ z. omega arith)) left-over in
+            let all : drop (run .taken - kept) (p ++ more) ≡ rest ++ more =
+            subst (λ b. take (cond b (r .size) 0) (r .held) ++ drop (run .taken - kept) (p ++ more) ≡ rest ++ more) (ne-eqb (run .taken) 0 (λ z. omega arith)) left-over in
             ap (λ m. storyFrom m (run .state) n (rest ++ more)) none ∙ story-none (run .state) n (rest ++ more)
             ∙ ap (λ l. endsIn [] (run .state) (cond (eqb (length l) 0) AtLast PastLast)) (sym all)
             ∙ sym (rest-closed then (drop (run .taken - kept) (p ++ more)) closed ∙ ended)
@@ -161,8 +167,8 @@ module _ (r : Reader) (s : Sane r) (o : open? (r .end) ≡ true) (p more : List 
                 ≡ endsIn [] (run .state) (cond (eqb (length (drop (run .taken - kept) (p ++ more))) 0) AtLast PastLast)
             ended = ap (λ e. endsIn [] (run .state) (laterEnd e (drop (run .taken - kept) (p ++ more)))) last ∙ unfold laterEnd in refl
 
-        sane : Sane then
-        sane = record { held = s .held; size = small (decEq (run .taken) 0); begun = still-begun (decEq (run .taken) 0); going = goes (decLt n mostEvents); not-15 = never (decLt n mostEvents) }
+        sane-then : Sane then
+        sane-then = record { held = s .held; size = small (decEq (run .taken) 0); begun = still-begun (decEq (run .taken) 0); going = goes (decLt n mostEvents); not-15 = never (decLt n mostEvents) }
           where
             small : Dec (run .taken ≡ 0) → size ≤ 17
             small (yes q) = rw (eq-eqb (run .taken) 0 q) (s .size)
@@ -192,16 +198,21 @@ module _ (r : Reader) (s : Sane r) (o : open? (r .end) ≡ true) (p more : List 
     taken-is = omega (arith, long)
 
     -- an unknown kind
-    strange-step : (k : ℕ) → readFrom rest ≡ Unknown k → let h = stopsBefore r run rest (length bytes - kept) (Unknown k) in
-        (restOf r (p ++ more) ≡ told (h .lines) (h .events) (restOf (h .reader) (drop (h .taken) (p ++ more)))) × Sane (h .reader)
-    unfolding stopsBefore open? laterEnd
-    strange-step k e = (
-      follows
-          ∙ ap (told (run .lines) (run .events)) (ap (λ m. storyFrom m (run .state) n (rest ++ more)) suc-left ∙ story-strange (mostEvents - n - 1) (run .state) n (rest ++ more) k (unknown-longer rest more k e))
+    strange-step : (k : ℕ) → readFrom rest ≡ Unknown k → Goes r (p ++ more) (meetsStranger r run (length bytes - kept) k)
+    unfolding open? laterEnd
+    strange-step k e = record {
+      tells =
+          follows ∙ ap (told (run .lines) (run .events)) (ap (λ m. storyFrom m (run .state) n (rest ++ more)) suc-left ∙ stranger)
           ∙ ap (λ ls. record { lines = ls; events = run .events ++ []; state = run .state; end = In16 k }) (sym (append-nil (run .lines ++ line)))
-          ∙ ap (told (run .lines ++ line) (run .events)) (sym (rest-closed then (drop (length bytes - kept) (p ++ more)) refl)),
-      record { held = s .held; size = omega arith; begun = begun-none; going = λ x. absurd (let z : _≡_ {A = ℕ} 0 1 = cc in omega arith); not-15 = λ j x. let z : _≡_ {A = ℕ} 0 1 = cc in omega arith },
-    )
+          ∙ ap (told (run .lines ++ line) (run .events)) (sym (rest-closed then (drop (length bytes - kept) (p ++ more)) refl));
+      sane = record {
+        held = s .held;
+        size = omega arith;
+        begun = begun-none;
+        going = λ x. absurd (let z : _≡_ {A = ℕ} 0 1 = cc in omega arith);
+        not-15 = λ j x. let z : _≡_ {A = ℕ} 0 1 = cc in omega arith;
+      };
+    }
       where
         line : List Line
         line = stopLine (suc n) k 16 ∷ []
@@ -209,20 +220,22 @@ module _ (r : Reader) (s : Sane r) (o : open? (r .end) ≡ true) (p more : List 
         then : Reader
         then = after r run (r .held) 0 (In16 k)
 
+        stranger : storyFrom (suc (mostEvents - n - 1)) (run .state) n (rest ++ more) ≡ endsIn line (run .state) (In16 k)
+        stranger = story-strange (mostEvents - n - 1) (run .state) n (rest ++ more) k (unknown-longer rest more k e)
+
     -- the begin of a record
-    hold-step : ((k : ℕ) → readFrom rest ≡ Unknown k → ⊥) → let h = holdsOn r run rest (length bytes - kept) in
-        (restOf r (p ++ more) ≡ told (h .lines) (h .events) (restOf (h .reader) (drop (h .taken) (p ++ more)))) × Sane (h .reader)
+    hold-step : ((k : ℕ) → readFrom rest ≡ Unknown k → ⊥) → Goes r (p ++ more) (holdsOn r run rest (length bytes - kept))
     unfolding open?
-    hold-step f = (
-      follows ∙ ap (told (run .lines) (run .events)) (ap (storyFrom (mostEvents - n) (run .state) n) (sym left-over) ∙ sym (rest-open then (drop (length bytes - kept) (p ++ more)) refl)),
-      record {
+    hold-step f = record {
+      tells = follows ∙ ap (told (run .lines) (run .events)) (ap (storyFrom (mostEvents - n) (run .state) n) (sym left-over) ∙ sym (rest-open then (drop (length bytes - kept) (p ++ more)) refl));
+      sane = record {
         held = omega (arith, length-append rest (drop (length rest) (r .held)), length-drop (length rest) (r .held), few, s .held);
         size = few;
         begun = subst Begun (sym front) began;
         going = λ x. below;
         not-15 = λ j x. let z : _≡_ {A = ℕ} 0 1 = cc in omega arith;
-      },
-    )
+      };
+    }
       where
         then : Reader
         then = after r run (overFront rest (r .held)) (length rest) NotYet
@@ -239,41 +252,13 @@ module _ (r : Reader) (s : Sane r) (o : open? (r .end) ≡ true) (p more : List 
         left-over : heldOf then ++ drop (length bytes - kept) (p ++ more) ≡ rest ++ more
         left-over = ap₂ (λ x m. x ++ drop m (p ++ more)) front taken-is ∙ ap (λ x. rest ++ x) (drop-append-seam p more)
 
-  pub over-step : let h = heardOver r kept bytes words in
-      (restOf r (p ++ more) ≡ told (h .lines) (h .events) (restOf (h .reader) (drop (h .taken) (p ++ more)))) × Sane (h .reader)
-  unfolding heardOver
-  over-step = go (decLt (length (run .lines)) room)
-    where
-      Steps : Heard → Type 0
-      Steps h = (restOf r (p ++ more) ≡ told (h .lines) (h .events) (restOf (h .reader) (drop (h .taken) (p ++ more)))) × Sane (h .reader)
-
-      known : (roomy : length (run .lines) < room) (x : Reading) → readFrom rest ≡ x → ((k : ℕ) → x ≡ Unknown k → ⊥) → Steps (stopsBefore r run rest (length bytes - kept) x)
-      known roomy x e f = subst Steps (sym (stops-known r run rest (length bytes - kept) x f)) (hold-step roomy (λ k q. f k (sym e ∙ q)))
-
-      stops : (roomy : length (run .lines) < room) (x : Reading) → readFrom rest ≡ x → Steps (stopsBefore r run rest (length bytes - kept) x)
-      stops roomy (Unknown k) e = strange-step roomy k e
-      stops roomy End e = known roomy End e (λ k q. let z : _≡_ {A = ℕ} 0 1 = cc in omega arith)
-      stops roomy (Got v m) e = known roomy (Got v m) e (λ k q. let z : _≡_ {A = ℕ} 0 1 = cc in omega arith)
-      stops roomy (CutShort j) e = known roomy (CutShort j) e (λ k q. let z : _≡_ {A = ℕ} 0 1 = cc in omega arith)
-
-      go : Dec (length (run .lines) < room) → Steps (heardOver r kept bytes words)
-      go (yes q) = rw (lt-ltb (length (run .lines)) room q) (stops q (readFrom rest) refl)
-      go (no q) = rw (le-ltb (length (run .lines)) room (omega arith)) (full-step (omega (arith, run-few room (r .state) (r .number) bytes)))
+  pub over-step : Goes r (p ++ more) (heardOver r kept bytes words)
+  over-step = over-by (Goes r (p ++ more)) r kept bytes words full-step strange-step hold-step
 
   -- WHERE THERE IS ROOM FOR A LINE something is taken
   over-takes : 0 < length p → 0 < room → 0 < heardOver r kept bytes words .taken
-  unfolding heardOver
-  over-takes h w = go (decLt (length (run .lines)) room)
-    where
-      stops : (x : Reading) → 0 < stopsBefore r run rest (length bytes - kept) x .taken
-      stops (Unknown k) = unfold stopsBefore in omega (arith, long)
-      stops End = unfold stopsBefore in omega (arith, long)
-      stops (Got v m) = unfold stopsBefore in omega (arith, long)
-      stops (CutShort j) = unfold stopsBefore in omega (arith, long)
-
-      go : Dec (length (run .lines) < room) → 0 < heardOver r kept bytes words .taken
-      go (yes q) = rw (lt-ltb (length (run .lines)) room q) (stops (readFrom rest))
-      go (no q) = rw (le-ltb (length (run .lines)) room (omega arith)) (let k = past-held (inr (omega arith)) in omega arith)
+  over-takes h w =
+      over-by (λ x. 0 < x .taken) r kept bytes words (λ q. let k = past-held (inr (omega arith)) in omega arith) (λ q k e. omega (arith, long)) (λ q f. omega (arith, long))
 
 -- an end stays an end, and bytes that come in two pieces are as many as they are
 closed-later : (e : Ending) (piece : List ℕ) → open? e ≡ false → open? (laterEnd e piece) ≡ false
@@ -312,14 +297,32 @@ no-length : (l : List ℕ) → length l ≡ 0 → l ≡ []
 no-length [] h = refl
 no-length (x ∷ l) h = absurd (omega arith)
 
--- A PIECE: what it tells, and what is then left to tell
-pub record Goes (r : Reader) (bytes : List ℕ) (h : Heard) : Type 0 where
-  pub tells : restOf r bytes ≡ told (h .lines) (h .events) (restOf (h .reader) (drop (h .taken) bytes))
-  pub sane : Sane (h .reader)
+-- the held bytes and so much of a piece are the window, and the rest of the piece follows it
+module _ (r : Reader) (s : Sane r) (piece : List ℕ) where
+  abbrev front : List ℕ
+  front = take (18 - length (heldOf r)) piece
+
+  window : heldOf r ++ front ≡ take 18 (heldOf r ++ piece)
+  window =
+      let few = begun-few (heldOf r) (s .begun) in
+      let sum : length (heldOf r) + (18 - length (heldOf r)) ≡ 18 = omega arith in
+      sym (take-append-add (heldOf r) piece (18 - length (heldOf r))) ∙ ap (λ m. take m (heldOf r ++ piece)) sum
+
+  behind-front : (more : List ℕ) → front ++ (drop (18 - length (heldOf r)) piece ++ more) ≡ piece ++ more
+  behind-front more = sym (append-assoc front (drop (18 - length (heldOf r)) piece) more) ∙ ap (λ l. l ++ more) (take-append-drop (18 - length (heldOf r)) piece)
 
 pub heard-goes : (r : Reader) → Sane r → (piece more : List ℕ) (words : ℕ) → Goes r (piece ++ more) (heard r piece words)
-heard-goes r s piece more words = go (open? (r .end)) refl
+heard-goes r s piece more words = heard-by (Goes r (piece ++ more)) r piece words by-itself in-the-window closed
   where
+    by-itself : open? (r .end) ≡ true → length (heldOf r) ≡ 0 → Goes r (piece ++ more) (heardOver r 0 piece words)
+    by-itself o q = subst (λ l. Goes r (piece ++ more) (heardOver r (length l) (l ++ piece) words)) (no-length (heldOf r) q) (over-step r s o piece more words)
+
+    in-the-window : open? (r .end) ≡ true → (length (heldOf r) ≡ 0 → ⊥) → Goes r (piece ++ more) (heardOver r (length (heldOf r)) (take 18 (heldOf r ++ piece)) (min words 6))
+    in-the-window o q =
+        subst (λ l. Goes r (piece ++ more) (heardOver r (length (heldOf r)) l (min words 6))) (window r s piece)
+        (subst (λ l. Goes r l (heardOver r (length (heldOf r)) (heldOf r ++ front r s piece) (min words 6))) (behind-front r s piece more)
+        (over-step r s o (front r s piece) (drop (18 - length (heldOf r)) piece ++ more) (min words 6)))
+
     closed : open? (r .end) ≡ false → Goes r (piece ++ more) (passedOver r piece (laterEnd (r .end) piece))
     closed e = record {
       tells =
@@ -336,31 +339,6 @@ heard-goes r s piece more words = go (open? (r .end)) refl
         not-15 = later-not-15 (r .end) piece (s .not-15);
       };
     }
-
-    opened : open? (r .end) ≡ true → Dec (length (heldOf r) ≡ 0) → Goes r (piece ++ more) (goesOnWith r piece words)
-    opened o (yes q) =
-        let x = over-step r s o piece more words in
-        let same : heardOver r (length (heldOf r)) (heldOf r ++ piece) words ≡ goesOnWith r piece words =
-        ap (λ l. heardOver r (length l) (l ++ piece) words) (no-length (heldOf r) q) ∙ sym (alone r piece words q) in
-        subst (Goes r (piece ++ more)) same record { tells = x .0; sane = x .1 }
-    opened o (no q) =
-        let few = begun-few (heldOf r) (s .begun) in
-        let p : List ℕ = take (18 - length (heldOf r)) piece in
-        let rest : List ℕ = drop (18 - length (heldOf r)) piece in
-        let x = over-step r s o p (rest ++ more) (min words 6) in
-        let sum : length (heldOf r) + (18 - length (heldOf r)) ≡ 18 = omega arith in
-        let window : heldOf r ++ p ≡ take 18 (heldOf r ++ piece) =
-        sym (take-append-add (heldOf r) piece (18 - length (heldOf r))) ∙ ap (λ m. take m (heldOf r ++ piece)) sum in
-        let whole : p ++ (rest ++ more) ≡ piece ++ more =
-        sym (append-assoc p rest more) ∙ ap (λ l. l ++ more) (take-append-drop (18 - length (heldOf r)) piece) in
-        let same : heardOver r (length (heldOf r)) (heldOf r ++ p) (min words 6) ≡ goesOnWith r piece words =
-        ap (λ l. heardOver r (length (heldOf r)) l (min words 6)) window ∙ sym (behind r piece words q) in
-        let there : Goes r (p ++ (rest ++ more)) (heardOver r (length (heldOf r)) (heldOf r ++ p) (min words 6)) = record { tells = x .0; sane = x .1 } in
-        subst (λ l. Goes r l (goesOnWith r piece words)) whole (subst (Goes r (p ++ (rest ++ more))) same there)
-
-    go : (b : Bool) → open? (r .end) ≡ b → Goes r (piece ++ more) (heard r piece words)
-    go true e = subst (Goes r (piece ++ more)) (sym (heard-open r piece words e)) (opened e (decEq (length (heldOf r)) 0))
-    go false e = subst (Goes r (piece ++ more)) (sym (heard-closed r piece words e)) (closed e)
 
 -- AT THE END OF THE INPUT
 later-none : (e : Ending) → laterEnd e [] ≡ e
@@ -397,7 +375,8 @@ closed-tells r s = go (open? (r .end)) refl
     left : open? (r .end) ≡ true → mostEvents - r .number ≡ suc (mostEvents - r .number - 1)
     left o = omega (arith, s .going o)
 
-    ends : (o : open? (r .end) ≡ true) (x : Reading) → readFrom (heldOf r) ≡ x → storyFrom (suc (mostEvents - r .number - 1)) (r .state) (r .number) (heldOf r) ≡ endsIn (lastLines (r .number) (endIn x)) (r .state) (endIn x)
+    ends : (o : open? (r .end) ≡ true) (x : Reading) → readFrom (heldOf r) ≡ x
+        → storyFrom (suc (mostEvents - r .number - 1)) (r .state) (r .number) (heldOf r) ≡ endsIn (lastLines (r .number) (endIn x)) (r .state) (endIn x)
     ends o End e = story-end (mostEvents - r .number - 1) (r .state) (r .number) (heldOf r) e ∙ nothing
       where
         nothing : endsIn [] (r .state) AtEnd ≡ endsIn (lastLines (r .number) (endIn End)) (r .state) (endIn End)
@@ -422,6 +401,10 @@ pub data Reads : Reader → List ℕ → List Line → List Event → Reader →
   done : (r : Reader) → Reads r [] [] [] r
   feed : (r : Reader) (p more : List ℕ) (words : ℕ) {ls : List Line} {vs : List Event} {last : Reader}
       → Reads (heard r p words .reader) (drop (heard r p words .taken) (p ++ more)) ls vs last → Reads r (p ++ more) (heard r p words .lines ++ ls) (heard r p words .events ++ vs) last
+
+told-told : (ks ls : List Line) (us vs : List Event) (s : Story) → told ks us (told ls vs s) ≡ told (ks ++ ls) (us ++ vs) s
+told-told ks ls us vs s =
+    λ i. record { lines = sym (append-assoc ks ls (s .lines)) i; events = sym (append-assoc us vs (s .events)) i; state = s .state; end = s .end }
 
 pub reads-tell : {r last : Reader} {bytes : List ℕ} {ls : List Line} {vs : List Event} → Sane r → Reads r bytes ls vs last
     → (restOf r bytes ≡ told ls vs (restOf last [])) × Sane last
@@ -457,26 +440,14 @@ reads-whole {last} {bytes} {ls} {vs} w =
 
 -- PROGRESS: where there is room for a line, something is taken of a piece that has a byte
 pub heard-takes : (r : Reader) → Sane r → (piece : List ℕ) (words : ℕ) → 0 < length piece → 6 ≤ words → 0 < heard r piece words .taken
-heard-takes r s piece words h w = go (open? (r .end)) refl
-  where
-    opened : open? (r .end) ≡ true → Dec (length (heldOf r) ≡ 0) → 0 < goesOnWith r piece words .taken
-    opened o (yes q) =
-        subst (λ (x : Heard). 0 < x .taken)
-        (ap (λ l. heardOver r (length l) (l ++ piece) words) (no-length (heldOf r) q) ∙ sym (alone r piece words q))
-        (over-takes r s o piece [] words h (omega (arith, s .going o)))
-    opened o (no q) =
-        let few = begun-few (heldOf r) (s .begun) in
-        let p : List ℕ = take (18 - length (heldOf r)) piece in
-        let sum : length (heldOf r) + (18 - length (heldOf r)) ≡ 18 = omega arith in
-        let window : heldOf r ++ p ≡ take 18 (heldOf r ++ piece) =
-        sym (take-append-add (heldOf r) piece (18 - length (heldOf r))) ∙ ap (λ m. take m (heldOf r ++ piece)) sum in
-        subst (λ (x : Heard). 0 < x .taken)
-        (ap (λ l. heardOver r (length (heldOf r)) l (min words 6)) window ∙ sym (behind r piece words q))
-        (over-takes r s o p [] (min words 6) (omega (arith, length-take (18 - length (heldOf r)) piece)) (omega (arith, s .going o)))
-
-    go : (b : Bool) → open? (r .end) ≡ b → 0 < heard r piece words .taken
-    go true e = subst (λ (x : Heard). 0 < x .taken) (sym (heard-open r piece words e)) (opened e (decEq (length (heldOf r)) 0))
-    go false e = subst (λ (x : Heard). 0 < x .taken) (sym (heard-closed r piece words e)) h
+heard-takes r s piece words h w =
+    heard-by (λ x. 0 < x .taken) r piece words
+    (λ o q. subst (λ l. 0 < heardOver r (length l) (l ++ piece) words .taken) (no-length (heldOf r) q) (over-takes r s o piece [] words h (omega (arith, s .going o))))
+    (λ o q.
+    let few = begun-few (heldOf r) (s .begun) in
+    subst (λ l. 0 < heardOver r (length (heldOf r)) l (min words 6) .taken) (window r s piece)
+    (over-takes r s o (front r s piece) [] (min words 6) (omega (arith, length-take (18 - length (heldOf r)) piece)) (omega (arith, s .going o))))
+    (λ c. h)
 
 -- and so however the reader has come there
 pub reads-takes : {last : Reader} {bytes : List ℕ} {ls : List Line} {vs : List Event} → Reads firstReader bytes ls vs last

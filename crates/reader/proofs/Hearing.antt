@@ -27,6 +27,7 @@ use Rattle.reader.specs.declared.Reader.{Reader}
 use Rattle.reader.specs.declared.Fed.{Fed}
 use Rattle.reader.specs.Reader.{Heard, after, holdsOn, stopsBefore, heardOver, asFed}
 use Rattle.reader.specs.Told.{judged, Told}
+use Rattle.reader.proofs.Cases.{stops-known}
 
 -- known, or a stranger
 pub judged-known : (x : Reading) → judged x .known ≡ true → (k : ℕ) → x ≡ Unknown k → ⊥
@@ -39,13 +40,6 @@ judged-strange (Unknown k) h = refl
 judged-strange End h = absurd (let w : _≡_ {A = ℕ} 0 1 = cc in omega arith)
 judged-strange (Got v n) h = absurd (let w : _≡_ {A = ℕ} 0 1 = cc in omega arith)
 judged-strange (CutShort k) h = absurd (let w : _≡_ {A = ℕ} 0 1 = cc in omega arith)
-
-pub stops-known : (r : Reader) (run : Run) (rest : List ℕ) (taken : ℕ) (x : Reading) → ((k : ℕ) → x ≡ Unknown k → ⊥) → stopsBefore r run rest taken x ≡ holdsOn r run rest taken
-unfolding stopsBefore
-stops-known r run rest taken End f = refl
-stops-known r run rest taken (Got v n) f = refl
-stops-known r run rest taken (CutShort k) f = refl
-stops-known r run rest taken (Unknown k) f = absurd (f k refl)
 
 -- a run, as the code has it
 module _ (r : Reader) (kept : ℕ) (bytes lent : List ℕ) (x : Ran) (e : x ≡ ran (r .state) (r .number) bytes (length lent)) where

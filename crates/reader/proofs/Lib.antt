@@ -1,7 +1,8 @@
 pub mod Held
 pub mod Ends
+pub mod Cases
 pub mod Hearing
+pub mod Bounds
 pub mod Going
 pub mod Cuts
-pub mod Bounds
 pub mod Counts

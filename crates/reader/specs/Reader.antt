@@ -35,35 +35,42 @@ pub record Heard : Type 0 where
 abbrev pub after : Reader → Run → List ℕ → ℕ → Ending → Reader
 after r run held size end = record { state = run .state; number = r .number + length (run .lines); held = held; size = size; end = end }
 
--- the begin of a record is held
+-- the run was as long as there was room for
+abbrev pub isFull : Reader → ℕ → Run → Heard
+isFull r kept run = record {
+  lines = run .lines;
+  events = run .events;
+  reader = after r run (r .held) (cond (eqb (run .taken) 0) (r .size) 0) (cond (ltb (r .number + length (run .lines)) mostEvents) NotYet AtLast);
+  taken = run .taken - kept;
+}
+
+-- it stopped before the begin of a record, which is held
 abbrev pub holdsOn : Reader → Run → List ℕ → ℕ → Heard
 holdsOn r run rest taken =
     record { lines = run .lines; events = run .events; reader = after r run (overFront rest (r .held)) (length rest) NotYet; taken = taken }
 
--- there was room, and the run stopped before something that is no whole record: an unknown kind gets its line, the begin of a record is held
-unfoldable pub stopsBefore : Reader → Run → List ℕ → ℕ → Reading → Heard
-stopsBefore r run rest taken End = holdsOn r run rest taken
-stopsBefore r run rest taken (Got v n) = holdsOn r run rest taken
-stopsBefore r run rest taken (CutShort k) = holdsOn r run rest taken
-stopsBefore r run rest taken (Unknown k) = record {
+-- it stopped before a record of no known kind, which gets its line
+abbrev pub meetsStranger : Reader → Run → ℕ → ℕ → Heard
+meetsStranger r run taken k = record {
   lines = run .lines ++ (stopLine (suc (r .number + length (run .lines))) k 16 ∷ []);
   events = run .events;
   reader = after r run (r .held) 0 (In16 k);
   taken = taken;
 }
 
+-- there was room for more: what is next is no whole record
+unfoldable pub stopsBefore : Reader → Run → List ℕ → ℕ → Reading → Heard
+stopsBefore r run rest taken End = holdsOn r run rest taken
+stopsBefore r run rest taken (Got v n) = holdsOn r run rest taken
+stopsBefore r run rest taken (CutShort k) = holdsOn r run rest taken
+stopsBefore r run rest taken (Unknown k) = meetsStranger r run taken k
+
 -- a run over some bytes, the first of which were held: as far as there is room
 unfoldable pub heardOver : Reader → ℕ → List ℕ → ℕ → Heard
 heardOver r kept bytes words =
     let run = ranFrom (roomFor words (r .number)) (r .state) (r .number) bytes in
     cond (ltb (length (run .lines)) (roomFor words (r .number)))
-    (stopsBefore r run (drop (run .taken) bytes) (length bytes - kept) (readFrom (drop (run .taken) bytes)))
-    record {
-      lines = run .lines;
-      events = run .events;
-      reader = after r run (r .held) (cond (eqb (run .taken) 0) (r .size) 0) (cond (ltb (r .number + length (run .lines)) mostEvents) NotYet AtLast);
-      taken = run .taken - kept;
-    }
+    (stopsBefore r run (drop (run .taken) bytes) (length bytes - kept) (readFrom (drop (run .taken) bytes))) (isFull r kept run)
 
 -- the bytes that a run goes over: a record that has begun goes first, by itself
 unfoldable pub sourceOf : Reader → List ℕ → List ℕ

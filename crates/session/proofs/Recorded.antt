@@ -80,7 +80,8 @@ unfolding ranFrom
 run-few zero b n bytes = omega arith
 run-few (suc room) b n bytes = go (λ c m ws. run-few room c m ws) (readFrom bytes) refl
   where
-    go : ((c : State) (m : ℕ) (ws : List ℕ) → length (ranFrom room c m ws .lines) ≤ room) → (r : Reading) → readFrom bytes ≡ r → length (ranFrom (suc room) b n bytes .lines) ≤ suc room
+    go : ((c : State) (m : ℕ) (ws : List ℕ) → length (ranFrom room c m ws .lines) ≤ room) → (r : Reading) → readFrom bytes ≡ r
+        → length (ranFrom (suc room) b n bytes .lines) ≤ suc room
     go next End e = rw (e, ranFrom) (omega arith)
     go next (CutShort k) e = rw (e, ranFrom) (omega arith)
     go next (Unknown k) e = rw (e, ranFrom) (omega arith)
@@ -159,11 +160,13 @@ story-none b n [] = refl
 story-none b n (x ∷ bytes) = rw (ne-eqb (suc (length bytes)) 0 (λ h. omega arith))
 
 -- what no whole record begins with
-pub story-cut : (left : ℕ) (b : State) (n : ℕ) (bytes : List ℕ) (k : ℕ) → readFrom bytes ≡ CutShort k → storyFrom (suc left) b n bytes ≡ endsIn (stopLine (suc n) k 15 ∷ []) b (In15 k)
+pub story-cut : (left : ℕ) (b : State) (n : ℕ) (bytes : List ℕ) (k : ℕ) → readFrom bytes ≡ CutShort k
+    → storyFrom (suc left) b n bytes ≡ endsIn (stopLine (suc n) k 15 ∷ []) b (In15 k)
 unfolding storyFrom
 story-cut left b n bytes k e = rw (e, storyFrom)
 
-pub story-strange : (left : ℕ) (b : State) (n : ℕ) (bytes : List ℕ) (k : ℕ) → readFrom bytes ≡ Unknown k → storyFrom (suc left) b n bytes ≡ endsIn (stopLine (suc n) k 16 ∷ []) b (In16 k)
+pub story-strange : (left : ℕ) (b : State) (n : ℕ) (bytes : List ℕ) (k : ℕ) → readFrom bytes ≡ Unknown k
+    → storyFrom (suc left) b n bytes ≡ endsIn (stopLine (suc n) k 16 ∷ []) b (In16 k)
 unfolding storyFrom
 story-strange left b n bytes k e = rw (e, storyFrom)
 

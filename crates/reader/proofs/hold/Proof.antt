@@ -26,7 +26,10 @@ put-bytes-requires : tie.Need-put-bytes-requires
 put-bytes-requires c κs = search needs
 
 returns : tie.Need-returns
-returns c = let s = c .before .before .before .before .before in front-of (s .args .bytes .now) (s .args .held) (c .before .put-bytes .last .0) (s .args .at) (omega arith) (omega (arith, held-size s)) (c .before .put-bytes .ensures .1)
+returns c =
+    let p = c .before in
+    let s = p .before .before .before .before in
+    front-of (s .args .bytes .now) (s .args .held) (p .put-bytes .last .0) (s .args .at) (omega arith) (omega (arith, held-size s)) (p .put-bytes .ensures .1)
 
 pub hold-spec : {M : Type 1} → statement M
 hold-spec =

@@ -32,7 +32,12 @@ put-bytes-requires : tie.Need-put-bytes-requires
 put-bytes-requires c κs = search needs
 
 returns : tie.Need-returns
-returns c = let s = c .before .before .before .before .before .before in let m = c .before .before .before .before .least in behind-kept (s .args .held) (s .args .piece .now) (c .before .put-bytes .last .0) (s .args .kept) (m .result) (c .before .put-bytes .result) (held-size s) (omega arith) (m .ensures) (c .before .put-bytes .ensures .0) (c .before .put-bytes .ensures .1)
+returns c =
+    let p = c .before .put-bytes in
+    let m = c .before .before .before .before in
+    let s = m .before .before in
+    behind-kept (s .args .held) (s .args .piece .now) (p .last .0) (s .args .kept) (m .least .result) (p .result) (held-size s) (omega arith) (m .least .ensures)
+    (p .ensures .0) (p .ensures .1)
 
 pub join-spec : {M : Type 1} → statement M
 join-spec =

@@ -29,7 +29,9 @@ returns c = let e = sym (c .enum-told .given .1) ∙ c .before .before .read-at 
 
 returns-2 : tie.Need-returns-2
 unfolding idIn idRead sizeRead
-returns-2 c = let e = sym (c .before .before .reading .given .1) ∙ c .before .before .before .before .read-at .ensures .0 in (c .name-of .ensures .0 ∙ ap idRead e, c .name-of .ensures .1 ∙ ap sizeRead e)
+returns-2 c =
+    let e = sym (c .before .before .reading .given .1) ∙ c .before .before .before .before .read-at .ensures .0 in
+    (c .name-of .ensures .0 ∙ ap idRead e, c .name-of .ensures .1 ∙ ap sizeRead e)
 
 returns-3 : tie.Need-returns-3
 unfolding idIn idRead sizeRead
