@@ -1,41 +1,8 @@
 // The program `ask`: event records, read in silence, and then the answer to the question in its arguments. A piece of the input
-// is read and fed; then what comes out is written part by part: all of it together is `askedOutput` of the question and the
-// whole recording (crates/asking).
-ghost use mathlib.Core.Path.{_≡_};
-ghost use mathlib.Core.Bool.{cond};
-ghost use lib.Dec.{leb};
-ghost use lib.ListN.{length, take};
-ghost use Rattle.questions.specs.declared.Question.the-variants.{Wrong};
-ghost use Rattle.questions.specs.Questions.{asks};
-use arguments::Asked;
+// is read and fed; then what comes out is written part by part: all of it together is `askText` of the arguments and the whole
+// recording (crates/ask_text).
 use asking::Asking;
 use questions::Question;
-
-// The question in the words that the arguments have left.
-fn question_of(text: &[u8], size: usize) -> Question
-    ensures { λ r. ⌜ r ≡ cond (leb size (length (now (text .entry)))) (asks (take size (now (text .entry)))) Wrong ⌝ }
-{
-    if text.len() < size {
-        return Question::Wrong;
-    }
-    questions::read(&text[0..size])
-}
-
-fn is_wrong(question: Question) -> bool {
-    match question {
-        Question::Wrong => true,
-        Question::Horizon => false,
-        Question::Busy(_) => false,
-        Question::Openings {
-            task: _,
-            start: _,
-            column: _,
-            most: _,
-        } => false,
-        Question::Board => false,
-        Question::Stamp(_) => false,
-    }
-}
 
 // What comes out once the input has ended.
 fn answer(a: Asking) {
@@ -79,8 +46,8 @@ fn play(fd: i32, question: Question) {
 fn main() {
     let mut text = io::buffer();
     let asked = system::asked(&mut text);
-    let question = question_of(&text, asked.size);
-    if asked.help | asked.wrong | asked.named | is_wrong(question) {
+    let question = ask_text::question_of(&text, asked.size);
+    if ask_text::shows_manual(asked, question) {
         let size = manuals::put_ask(&mut text, asked.help);
         system::tell(b"ask: ", asked.help, &text[0..size]);
         return;

@@ -228,6 +228,7 @@ module _ {row : List ℕ} {W w : ℕ} {keys : List ℕ} {m from : ℕ} (o : Pass
 -- THE END: no room for w columns is left
 pub pass-last : {row : List ℕ} {W w : ℕ} {keys : List ℕ} {m from : ℕ} → Passed row W w keys m from → W ≤ 256 → suc W < from + w → Listed (unheld row) W w keys m
 pass-last {row} {W} {w} {keys} {m} {from} o small e = record {
+  size = o .size;
   few = omega (arith, o .few, o .high);
   each = λ i h. let s = o .listed .each i h in (s .0, longest-runs (unheld row) 1 W (s .0) (s .1), s .3, s .4);
   all = λ q i l. all q (runs-longest (unheld row) 1 W i) l (decLt (q .left) from);

@@ -5,7 +5,7 @@ use mathlib.Core.Logic.{_⊎_}
 use mathlib.Core.Bool.{Bool, _&&_}
 use mathlib.Core.List.{List}
 use lib.Dec.{leb}
-use lib.ListN.{getD}
+use lib.ListN.{length, getD}
 use Rattle.lists.specs.Lists.{_∈_, all?, range, never}
 use Rattle.tasks.specs.declared.Task.{Task}
 use Rattle.tasks.specs.Tasks.{from, finish, past, overlap}
@@ -41,6 +41,7 @@ pub record FirstHeld (row : List ℕ) (from W r : ℕ) : Type 0 where
 
 -- the first m of the keys are those of the runs of at least w columns
 pub record Listed (passes : ℕ → Bool) (W w : ℕ) (keys : List ℕ) (m : ℕ) : Type 0 where
+  pub size : length keys ≡ 129
   pub few : m ≤ 129
   pub each : (i : ℕ) → i < m → (q : Run) × (q ∈ runs passes (columns W)) × (w ≤ q .size) × (key q ≡ getD keys i 0)
   pub all : (q : Run) → q ∈ runs passes (columns W) → w ≤ q .size → (i : ℕ) × (i < m) × (getD keys i 0 ≡ key q)

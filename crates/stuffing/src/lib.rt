@@ -134,10 +134,10 @@ pub fn find(live: &Live, count: usize, q: Window) -> Found
     let last = q.d - q.e;
     let mut t = q.clock;
     let mut n = live::after(live, count, t);
+    let mut keys = [0u32; 129];
     'visits: loop {
         let mut row = [0u16; 257];
         mark_held(live, n, t, &mut row);
-        let mut keys = [0u32; 129];
         let m = list_fits(&row, q.width, q.w, &mut keys);
         let mut after: u32 = 0;
         'tries: loop {

@@ -41,3 +41,7 @@ decimal-one x h = in-one x x h
 pub decimal-more : (n x : ℕ) → 10 ^ n ≤ x → x < 10 ^ suc n → lastDigits (suc n) x ≡ decimal x
 unfolding decimal
 decimal-more n x h k = in-all n (suc x) x (omega arith) h k
+
+pub decimal-digit : (x : ℕ) → x < 10 → (48 + x) ∷ [] ≡ decimal x
+unfolding lastDigits
+decimal-digit x h = ap (λ d. d ∷ []) (let z : 48 + x ≡ 48 + x % 10 = omega arith in z) ∙ decimal-one x h

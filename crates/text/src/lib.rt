@@ -57,13 +57,18 @@ fn spell(out: &mut [u8], at: usize, n: usize, x: u64)
     }
 }
 
-// A number of ten digits at most, as every u32 is and the sum of two, from a place of the buffer on; the place after it.
+// A number of ten digits at most, as every u32 is and the sum of two, from a place of the buffer on; the place after it. Most numbers
+// of a listing have one digit: they are put without a count and a division.
 pub fn put_long(out: &mut [u8], at: usize, x: u64) -> usize
     requires { ⌜ (x < 10000000000) × (at + 10 ≤ length (now out)) ⌝ }
     ensures { λ r. ⌜ r ≡ at + length (decimal x) ⌝ }
     ensures { λ r. ⌜ now (out .exit) ≡ sets (now (out .entry)) at (decimal x) ⌝ }
     ensures { λ r. ⌜ r ≤ at + 10 ⌝ }
 {
+    if x < 10 {
+        out[at] = 48 + x as u8;
+        return at + 1;
+    }
     let n = digits(x);
     spell(out, at, n, x);
     at + n

@@ -1,7 +1,8 @@
 -- `stuffing::find` meets its contract: the tries at a time give its first candidate, the visits give the answer. Assumes nothing.
 use Prim.Native.Nat.{_+_, _-_, _≤_}
-use mathlib.Core.Path.{refl, sym, _∙_}
+use mathlib.Core.Path.{_≡_, refl, sym, _∙_}
 use native.Mathlib.Omega.{arith}
+use lib.ListN.{length}
 use Rattle.lists.specs.Lists.{never}
 use Rattle.columns.proofs.BestFit.{left-small}
 use Rattle.live.specs.Live.{tasksOf, After}
@@ -23,11 +24,11 @@ abbrev μ-tries : tie.MeasureT-tries
 μ-tries live count q last t n keys m after₀ after = never - after
 
 abbrev Inv-visits : tie.InvT-visits
-Inv-visits live count q last t₀ n₀ t n =
-    Stuffs (q .width) (q .clock) (tasksOf count live) (q .w) (q .e) (q .d) t × (t + q .e ≤ q .d) × After live count t n
+Inv-visits live count q last t₀ n₀ keys₀ t n keys =
+    Stuffs (q .width) (q .clock) (tasksOf count live) (q .w) (q .e) (q .d) t × (t + q .e ≤ q .d) × After live count t n × (length keys ≡ 129)
 
 abbrev μ-visits : tie.MeasureT-visits
-μ-visits live count q last t₀ n₀ t n = q .d - t
+μ-visits live count q last t₀ n₀ keys₀ t n keys = q .d - t
 
 -- a visit, and the call that it stands in
 abbrev Visit : Type 0
@@ -63,7 +64,7 @@ after-requires : tie.Need-after-requires Inv-tries μ-tries Inv-visits μ-visits
 after-requires c κs = search needs
 
 visits-holds : tie.Need-visits-holds Inv-tries μ-tries Inv-visits μ-visits
-visits-holds c = (visits-start _ _ _ _ _ _, omega arith, c .after .ensures)
+visits-holds c = (visits-start _ _ _ _ _ _, omega arith, c .after .ensures, refl)
 
 mark-held-requires : tie.Need-mark-held-requires Inv-tries μ-tries Inv-visits μ-visits
 mark-held-requires c κs = let v = c .before in (fewer (v .before .before .before .pre .0) (v .visits .inv .2 .few), refl)
@@ -73,7 +74,7 @@ list-fits-requires c κs =
     let h = c .before .before in
     let v = h .before .before in
     let s = v .before .before .before in
-    (s .pre .0 .wide, omega arith, omega (arith, s .pre .0 .wide), stretches (s .pre .0) (s .pre .1) (s .pre .2) (v .visits .inv .2) (h .mark-held .ensures), refl)
+    (s .pre .0 .wide, omega arith, omega (arith, s .pre .0 .wide), stretches (s .pre .0) (s .pre .1) (s .pre .2) (v .visits .inv .2) (h .mark-held .ensures), v .visits .inv .3)
 
 tries-holds : tie.Need-tries-holds Inv-tries μ-tries Inv-visits μ-visits
 tries-holds c =
@@ -143,6 +144,7 @@ visits-again c =
       stuffs-on _ _ _ _ (s .pre .0) _ _ _ (v .visits .inv .0) none-here x (omega arith) (omega arith) (omega arith),
       omega arith,
       after-on (v .visits .inv .2) (omega (arith, x .after)) (c .after2 .ensures),
+      i .before .list-fits .ensures .size,
     )
 
 returns : tie.Need-returns Inv-tries μ-tries Inv-visits μ-visits

@@ -1,4 +1,4 @@
--- `ask::question_of` meets its contract. Assumes nothing.
+-- `ask_text::question_of` meets its contract. Assumes nothing.
 use Prim.Native.Nat.{_-_}
 use mathlib.Core.Path.{_≡_, sym, ap, _∙_}
 use mathlib.Core.Bool.{cond}
@@ -8,11 +8,13 @@ use lib.Dec.{leb}
 use lib.ListN.{length, take}
 use Rattle.questions.specs.declared.Question.the-variants.{Wrong}
 use Rattle.questions.specs.Questions.{asks}
+use Rattle.ask_text.specs.AskText.{questionIn}
 use borrow.Author.Needs.{needs}
-use Rattle.ask.proofs.question_of.Statement.{statement}
-use Rattle.ask.proofs.question_of.Tie as tie
+use Rattle.ask_text.proofs.question_of.Statement.{statement}
+use Rattle.ask_text.proofs.question_of.Tie as tie
 
 returns : tie.Need-returns
+unfolding questionIn
 returns c =
     let a = c .before .before .args in
     sym (ap (λ b. cond b (asks (take (a .size) (a .text .now))) Wrong) (lt-leb (a .size) (length (a .text .now)) (c .if1 .taken)))
@@ -30,6 +32,7 @@ read-requires : tie.Need-read-requires
 read-requires c κs = search needs
 
 returns-2 : tie.Need-returns-2
+unfolding questionIn
 returns-2 c =
     let l = c .before .before in
     let a = l .before .before .args in
