@@ -1,64 +1,157 @@
 -- THE THREE DEMANDS, theorem by theorem. Each call's promise is one equation to the book (docs/PROMISES.md): what is said here of the book is said of the calls. Assumes nothing.
 use Prim.Native.Nat.{ℕ, suc, _/_, _≤_, _<_}
-use mathlib.Core.Path.{_≡_}
+use mathlib.Core.Path.{_≡_, refl}
 use mathlib.Core.Logic.{_⊎_}
 use mathlib.Core.Bool.{false}
 use mathlib.Core.Option.{none, some}
 use mathlib.Core.List.{List, [], _++_, map}
 use native.Mathlib.Omega.{arith}
 use lib.Dec.{T}
-use lib.ListN.{length, take}
-use Rattle.lists.specs.Lists.{_∈_, head?, lastOr}
+use lib.ListN.{length, take, drop, replicate}
+use Rattle.lists.specs.Lists.{_∈_, head?, lastOr, pairwise?, all?}
 use Rattle.lists.proofs.Order.{Sorted}
 use Rattle.ways.specs.Ways.{pair}
 use Rattle.tasks.specs.declared.Task.{Task}
 use Rattle.tasks.specs.declared.Submission.{Submission}
-use Rattle.tasks.specs.Tasks.{finish, live}
+use Rattle.tasks.specs.Numbers.{device}
+use Rattle.tasks.specs.Tasks.{finish, live, freeSlot}
 use Rattle.columns.specs.Columns.{columns}
 use Rattle.planners.specs.Openings.{Place, openings}
 use Rattle.planners.specs.Planners.{release, visited, candidates, releasedEdges, stuffing, horizon}
 use Rattle.planners.proofs.Openings.{Opening, Before}
 use Rattle.planners.proofs.Planners.{Answers, stuffing-answers, stuffing-rejects, horizon-answers, horizon-rejects}
 use Rattle.board.specs.declared.Board.{Board}
+use Rattle.board.specs.declared.Clocked.{Clocked}
+use Rattle.board.specs.declared.Withdrawn.{Withdrawn}
+use Rattle.board.specs.declared.Opened.{Opened}
+use Rattle.board.specs.declared.Listed.{Listed}
+use Rattle.board.specs.declared.Counted.{Counted}
+use Rattle.board.specs.declared.Created.{Created}
 use Rattle.board.specs.declared.Answer.the-variants.{Placed, Rejected, Refused}
-use Rattle.board.specs.Refusals.{liveOf, refusedSubmit, refusedInstant, refusedWithdraw, refusedOpenings, refusedHorizon}
+use Rattle.board.specs.Refusals.{liveOf, refusedSubmit}
+use Rattle.board.specs.Refusals.{refusedCreate, refusedInstant, refusedWithdraw, refusedOpenings, refusedHorizon}
 use Rattle.board.specs.Calls.{taken, submitted, clocked, withdrawn, remaining, opened, openedBuffer, listed, listedBuffer, counted}
-use Rattle.board.proofs.Kept.{SoundBoard, slotAt, refused-submit-same, refused-clock-same, refused-withdraw-same, submitted-keeps, Clocks, clocked-keeps, Withdraws, withdrawn-moves-none}
-use Rattle.board.proofs.Window.{Reachable, refused-opened}
-use Rattle.board.proofs.Looked.{refused-horizon-same, refused-busy-same}
+use Rattle.board.specs.Calls.{freshBoard, created}
+use Rattle.board.proofs.Kept.{SoundBoard, slotAt, submitted-keeps, Clocks, clocked-keeps, Withdraws, withdrawn-moves-none}
+use Rattle.board.proofs.Window.{Reachable}
 use Rattle.board.proofs.Placed.{full-placed, full-rejected}
 use Rattle.board.proofs.Asking.{given, asking, IsOpening, given-first, left-opens, opens-left, left-ordered, none-missed, asking-from-none, full-takes-given}
 use Rattle.events.specs.declared.Event.{Event}
 use Rattle.events.specs.declared.Reading.the-variants.{Got}
-use Rattle.events.specs.declared.Written.the-variants.{NoRoom}
 use Rattle.events.specs.Records.{recordOf, readFrom, written, writtenBuffer}
 use Rattle.events.proofs.RoundTrip.{Fits, Bytes, read-written, written-again}
-use Rattle.events.proofs.Calls.{refused-stays}
+use Rattle.events.specs.declared.Reading.{Reading}
+use Rattle.events.specs.declared.Reading.the-variants.{End, CutShort, Unknown}
+use Rattle.events.specs.Records.{toldRead, toldWritten}
+use Rattle.events.proofs.Calls.{told-17, told-length}
+use Rattle.events.proofs.Writing.{short-buffer, room-buffer}
+use Rattle.promises.proofs.Clauses.{Row, First, Clear, Given, Holding, Rises, Reads}
+use Rattle.promises.proofs.Clauses.{new-board-rows, submission-rows, instant-rows, withdrawal-rows, openings-rows, horizon-rows}
+use Rattle.promises.proofs.Refusing.{first-refused, told-given, first-once, clear-none, first-lowest, refused-first, what-reads, reads-that}
+use Rattle.promises.proofs.Refusing.{decides-new-board, decides-submission, decides-instant, decides-withdrawal, decides-openings, decides-horizon}
 
--- DEMAND 1. "Bad input gets the refusal number that document 01 fixes .. a refusal hands the board back as it came and writes nothing to a lent buffer."
--- (That every call takes any board, task, instant or buffer and ends: no public call has a `requires`, and each is proved to end.)
-pub demand-1-submission : (b : Board) (n : ℕ) (a : Submission) (k : ℕ) → refusedSubmit b n a ≡ suc k → submitted b n a ≡ record { answer = Refused (suc k); board = b }
-demand-1-submission = refused-submit-same
+-- DEMAND 1. "Every call takes any board, task, instant or buffer and ends": no public call has a `requires`, and each is proved to end.
+-- "Bad input gets the refusal number that document 01 fixes, in its order of checks": each call's rows, number and "given exactly when" in that
+-- order, stand in Clauses. `First rows k`: the first row that holds has the number k; `Clear rows`: none holds; `Given rows k`: one of these, k being 0 where none holds.
+-- "a refusal hands the board back as it came and writes nothing to a lent buffer": the first row that holds gives the whole answer
+pub demand-1-submission : (b : Board) (n : ℕ) (a : Submission) {k : ℕ} → First (submission-rows b n a) k → submitted b n a ≡ record { answer = Refused k; board = b }
+unfolding submitted refusedSubmit
+demand-1-submission b n a f = first-refused _ _ (decides-submission b n a) f
 
-pub demand-1-clock : (b : Board) (i k : ℕ) → refusedInstant b i ≡ suc k → clocked b i ≡ record { number = suc k; board = b }
-demand-1-clock = refused-clock-same
+pub demand-1-clock : (b : Board) (i : ℕ) {k : ℕ} → First (instant-rows b i) k → clocked b i ≡ record { number = k; board = b }
+unfolding clocked refusedInstant
+demand-1-clock b i f = first-refused _ _ (decides-instant b i) f
 
-pub demand-1-withdrawal : (b : Board) (n k : ℕ) → refusedWithdraw b n ≡ suc k → withdrawn b n ≡ record { number = suc k; board = b }
-demand-1-withdrawal = refused-withdraw-same
+pub demand-1-withdrawal : (b : Board) (n : ℕ) {k : ℕ} → First (withdrawal-rows b n) k → withdrawn b n ≡ record { number = k; board = b }
+unfolding withdrawn refusedWithdraw
+demand-1-withdrawal b n f = first-refused _ _ (decides-withdrawal b n) f
 
-pub demand-1-openings : (b : Board) (a : Submission) (s c : ℕ) (buffer : List ℕ) (k : ℕ) → refusedOpenings b a ≡ suc k
-    → (record { number = suc k; count = 0; more = false; board = b } ≡ opened b a s c (length buffer)) × (buffer ≡ openedBuffer b a s c buffer)
-demand-1-openings b a s c buffer k e = refused-opened b a s c buffer (suc k) e (omega arith)
+pub demand-1-openings : (b : Board) (a : Submission) (s c : ℕ) (buffer : List ℕ) {k : ℕ} → First (openings-rows b a) k
+    → (opened b a s c (length buffer) ≡ record { number = k; count = 0; more = false; board = b }) × (openedBuffer b a s c buffer ≡ buffer)
+unfolding opened openedBuffer refusedOpenings
+demand-1-openings b a s c buffer f = (first-refused _ _ (decides-openings b a) f, first-refused _ _ (decides-openings b a) f)
 
-pub demand-1-horizon : (b : Board) (buffer : List ℕ) (k : ℕ) → refusedHorizon b (length buffer) ≡ suc k
-    → (listed b (length buffer) ≡ record { number = suc k; count = 0; board = b }) × (listedBuffer b buffer ≡ buffer)
-demand-1-horizon = refused-horizon-same
+pub demand-1-horizon : (b : Board) (buffer : List ℕ) {k : ℕ} → First (horizon-rows b (length buffer)) k
+    → (listed b (length buffer) ≡ record { number = k; count = 0; board = b }) × (listedBuffer b buffer ≡ buffer)
+unfolding listed listedBuffer refusedHorizon
+demand-1-horizon b buffer f = (first-refused _ _ (decides-horizon b (length buffer)) f, first-refused _ _ (decides-horizon b (length buffer)) f)
 
-pub demand-1-busy : (b : Board) (i k : ℕ) → refusedInstant b i ≡ suc k → counted b i ≡ record { number = suc k; count = 0; board = b }
-demand-1-busy = refused-busy-same
+pub demand-1-busy : (b : Board) (i : ℕ) {k : ℕ} → First (instant-rows b i) k → counted b i ≡ record { number = k; count = 0; board = b }
+unfolding counted refusedInstant
+demand-1-busy b i f = first-refused _ _ (decides-instant b i) f
 
-pub demand-1-writer : (v : Event) (buffer : List ℕ) → written v (length buffer) ≡ NoRoom → writtenBuffer v buffer ≡ buffer
-demand-1-writer = refused-stays
+-- "A refused new board is a board of zeros"
+pub demand-1-new-board : (W H : ℕ) {k : ℕ} → First (new-board-rows W H) k
+    → created W H ≡ record { number = k; board = record { tasks = replicate 64 freeSlot; now = 0; device = device 0 0 } }
+unfolding created refusedCreate freshBoard
+demand-1-new-board W H f = first-refused _ _ (decides-new-board W H) f
+
+-- and no other number is given: the number of any answer is that of the first row that holds, and 0 where none does
+pub demand-1-submission-only : (b : Board) (n : ℕ) (a : Submission) (k : ℕ) → submitted b n a .answer ≡ Refused k → First (submission-rows b n a) k
+demand-1-submission-only = refused-first
+
+pub demand-1-clock-only : (b : Board) (i : ℕ) → Given (instant-rows b i) (clocked b i .number)
+unfolding clocked refusedInstant
+demand-1-clock-only b i = told-given _ _ (decides-instant b i) (λ (r : Clocked). r .number) refl (λ k. refl)
+
+pub demand-1-withdrawal-only : (b : Board) (n : ℕ) → Given (withdrawal-rows b n) (withdrawn b n .number)
+unfolding withdrawn refusedWithdraw
+demand-1-withdrawal-only b n = told-given _ _ (decides-withdrawal b n) (λ (r : Withdrawn). r .number) refl (λ k. refl)
+
+pub demand-1-openings-only : (b : Board) (a : Submission) (s c words : ℕ) → Given (openings-rows b a) (opened b a s c words .number)
+unfolding opened refusedOpenings
+demand-1-openings-only b a s c words = told-given _ _ (decides-openings b a) (λ (r : Opened). r .number) refl (λ k. refl)
+
+pub demand-1-horizon-only : (b : Board) (words : ℕ) → Given (horizon-rows b words) (listed b words .number)
+unfolding listed refusedHorizon
+demand-1-horizon-only b words = told-given _ _ (decides-horizon b words) (λ (r : Listed). r .number) refl (λ k. refl)
+
+pub demand-1-busy-only : (b : Board) (i : ℕ) → Given (instant-rows b i) (counted b i .number)
+unfolding counted refusedInstant
+demand-1-busy-only b i = told-given _ _ (decides-instant b i) (λ (r : Counted). r .number) refl (λ k. refl)
+
+pub demand-1-new-board-only : (W H : ℕ) → Given (new-board-rows W H) (created W H .number)
+unfolding created refusedCreate
+demand-1-new-board-only W H = told-given _ _ (decides-new-board W H) (λ (r : Created). r .number) refl (λ k. refl)
+
+-- the rows give one number only, and none of them holds where they are clear
+pub demand-1-one-number : {rows : List Row} {j k : ℕ} → First rows j → First rows k → j ≡ k
+demand-1-one-number = first-once
+
+pub demand-1-none-holds : {rows : List Row} {k : ℕ} → Clear rows → Holding rows k → ⊥
+demand-1-none-holds = clear-none
+
+-- "Several at once: the lowest number wins": the numbers of every call's rows rise, and then no row that holds has a lower one than the first
+pub demand-1-lowest : {rows : List Row} {j k : ℕ} → Rises rows → First rows k → Holding rows j → k ≤ j
+demand-1-lowest = first-lowest
+
+pub demand-1-rising : (b : Board) (n i words : ℕ) (a : Submission)
+    → Rises (submission-rows b n a) × Rises (instant-rows b i) × Rises (withdrawal-rows b n) × Rises (openings-rows b a) × Rises (horizon-rows b words)
+unfolding pairwise? all?
+demand-1-rising b n i words a = (tt, tt, tt, tt, tt)
+
+-- the reader's 15, 16 and end: exactly when `Reads` says so, with "the kind byte, no event and 0 bytes taken"
+pub demand-1-reader : (l : List ℕ) → Reads l (readFrom l)
+demand-1-reader = what-reads
+
+pub demand-1-reader-only : {l : List ℕ} {r : Reading} → Reads l r → readFrom l ≡ r
+demand-1-reader-only = reads-that
+
+pub demand-1-reader-told : (kind : ℕ) → (toldRead (CutShort kind) ≡ record { number = 15; kind = kind; taken = 0 })
+    × (toldRead (Unknown kind) ≡ record { number = 16; kind = kind; taken = 0 }) × (toldRead End ≡ record { number = 0; kind = 0; taken = 0 })
+unfolding toldRead
+demand-1-reader-told kind = (refl, refl, refl)
+
+-- the writer's 17: exactly when the record is longer than the buffer, and then every byte stays
+pub demand-1-writer : (v : Event) (buffer : List ℕ) → length buffer < length (recordOf v)
+    → (toldWritten (written v (length buffer)) ≡ record { number = 17; length = 0 }) × (writtenBuffer v buffer ≡ buffer)
+demand-1-writer v buffer h = (told-17 v buffer h, short-buffer v buffer h)
+
+-- otherwise the record stands over the front, and the bytes beyond it stay
+pub demand-1-writer-done : (v : Event) (buffer : List ℕ) → length (recordOf v) ≤ length buffer
+    → (toldWritten (written v (length buffer)) ≡ record { number = 0; length = length (recordOf v) })
+    × (writtenBuffer v buffer ≡ recordOf v ++ drop (length (recordOf v)) buffer)
+demand-1-writer-done v buffer h = (told-length v buffer h, room-buffer v buffer h)
 
 -- DEMAND 2. "Reference, Horizon and Stuffing answer exactly as published": at the least visited time that has a candidate, with the first there
 pub demand-2-stuffing : (W now : ℕ) (ts : List Task) (a : Submission) {p : Place} → stuffing W now ts a ≡ some p → Answers (candidates W now ts a) (visited W now ts a (map finish ts)) p

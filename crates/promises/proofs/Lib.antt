@@ -1,3 +1,5 @@
+pub mod Clauses
+pub mod Refusing
 pub mod Proved
 pub mod Unique
 pub mod Session
