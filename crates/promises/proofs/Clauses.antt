@@ -43,10 +43,10 @@ pub data Clear : List Row → Type 1 where
   empty : Clear []
   next : {r : Row} {rows : List Row} → (r .given → ⊥) → Clear rows → Clear (r ∷ rows)
 
--- WHAT THE ROWS GIVE: 0 where no row holds, and otherwise the number of the first that does
+-- WHAT THE ROWS GIVE: 0 where no row holds, and otherwise the number of the first that does, which is not 0
 pub data Given (rows : List Row) (k : ℕ) : Type 1 where
   done : Clear rows → k ≡ 0 → Given rows k
-  refused : First rows k → Given rows k
+  refused : First rows k → 0 < k → Given rows k
 
 -- a row of the number k, wherever it stands, holds
 pub data Holding : List Row → ℕ → Type 1 where

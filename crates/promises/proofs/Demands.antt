@@ -6,15 +6,14 @@ use mathlib.Core.Bool.{false}
 use mathlib.Core.Option.{none, some}
 use mathlib.Core.List.{List, [], _++_, map}
 use native.Mathlib.Omega.{arith}
-use lib.Dec.{T}
-use lib.ListN.{length, take, drop, replicate}
+use lib.ListN.{length, take, drop, getD, replicate}
 use Rattle.lists.specs.Lists.{_∈_, head?, lastOr, pairwise?, all?}
 use Rattle.lists.proofs.Order.{Sorted}
 use Rattle.ways.specs.Ways.{pair}
 use Rattle.tasks.specs.declared.Task.{Task}
 use Rattle.tasks.specs.declared.Submission.{Submission}
 use Rattle.tasks.specs.Numbers.{device}
-use Rattle.tasks.specs.Tasks.{finish, live, freeSlot}
+use Rattle.tasks.specs.Tasks.{finish, freeSlot, stamped, stampedAll}
 use Rattle.columns.specs.Columns.{columns}
 use Rattle.planners.specs.Openings.{Place, openings}
 use Rattle.planners.specs.Planners.{release, visited, candidates, releasedEdges, stuffing, horizon}
@@ -32,7 +31,7 @@ use Rattle.board.specs.Refusals.{liveOf, refusedSubmit}
 use Rattle.board.specs.Refusals.{refusedCreate, refusedInstant, refusedWithdraw, refusedOpenings, refusedHorizon}
 use Rattle.board.specs.Calls.{taken, submitted, clocked, withdrawn, remaining, opened, openedBuffer, listed, listedBuffer, counted}
 use Rattle.board.specs.Calls.{freshBoard, created}
-use Rattle.board.proofs.Kept.{SoundBoard, slotAt, submitted-keeps, Clocks, clocked-keeps, Withdraws, withdrawn-moves-none}
+use Rattle.board.proofs.Kept.{SoundBoard}
 use Rattle.board.proofs.Window.{Reachable}
 use Rattle.board.proofs.Placed.{full-placed, full-rejected}
 use Rattle.board.proofs.Asking.{given, asking, IsOpening, given-first, left-opens, opens-left, left-ordered, none-missed, asking-from-none, full-takes-given}
@@ -42,12 +41,16 @@ use Rattle.events.specs.Records.{recordOf, readFrom, written, writtenBuffer}
 use Rattle.events.proofs.RoundTrip.{Fits, Bytes, read-written, written-again}
 use Rattle.events.specs.declared.Reading.{Reading}
 use Rattle.events.specs.declared.Reading.the-variants.{End, CutShort, Unknown}
+use Rattle.events.specs.declared.Written.the-variants.{Length}
 use Rattle.events.specs.Records.{toldRead, toldWritten}
 use Rattle.events.proofs.Calls.{told-17, told-length}
 use Rattle.events.proofs.Writing.{short-buffer, room-buffer}
 use Rattle.promises.proofs.Clauses.{Row, First, Clear, Given, Holding, Rises, Reads}
 use Rattle.promises.proofs.Clauses.{new-board-rows, submission-rows, instant-rows, withdrawal-rows, openings-rows, horizon-rows}
-use Rattle.promises.proofs.Refusing.{first-refused, told-given, first-once, clear-none, first-lowest, refused-first, what-reads, reads-that}
+use Rattle.board.proofs.Looked.{listed-board, counted-board}
+use Rattle.promises.proofs.Clauses.{Books, Ages, Removes, ListsRuns, CountsHeld, Stamps}
+use Rattle.promises.proofs.Following.{books, books-nothing, ages, removes, lists-runs, counts-held, opened-board, stamps, stamps-all, buffer-reads-back, buffer-written-again}
+use Rattle.promises.proofs.Refusing.{first-refused, clear-done, told-given, given-once, clear-none, first-lowest, refused-first, what-reads, reads-that}
 use Rattle.promises.proofs.Refusing.{decides-new-board, decides-submission, decides-instant, decides-withdrawal, decides-openings, decides-horizon}
 
 -- DEMAND 1. "Every call takes any board, task, instant or buffer and ends": no public call has a `requires`, and each is proved to end.
@@ -115,8 +118,8 @@ unfolding created refusedCreate
 demand-1-new-board-only W H = told-given _ _ (decides-new-board W H) (λ (r : Created). r .number) refl (λ k. refl)
 
 -- the rows give one number only, and none of them holds where they are clear
-pub demand-1-one-number : {rows : List Row} {j k : ℕ} → First rows j → First rows k → j ≡ k
-demand-1-one-number = first-once
+pub demand-1-one-number : {rows : List Row} {j k : ℕ} → Given rows j → Given rows k → j ≡ k
+demand-1-one-number = given-once
 
 pub demand-1-none-holds : {rows : List Row} {k : ℕ} → Clear rows → Holding rows k → ⊥
 demand-1-none-holds = clear-none
@@ -169,22 +172,66 @@ pub demand-2-horizon-rejects : (W now : ℕ) (ts : List Task) (a : Submission) �
     → (i : ℕ) → i ∈ visited W now ts a (map (release now ts) (columns W)) → releasedEdges W now ts a i ≡ []
 demand-2-horizon-rejects W now ts a e = horizon-rejects W now ts a e
 
--- "booking, clock, withdrawal .. follow its rules": a live task keeps its slot, columns and start under each of them
-pub demand-2-booking : (b : Board) (n : ℕ) (a : Submission) (i : ℕ) → i < length (b .tasks) → T (live (slotAt b i)) → slotAt (submitted b n a .board) i ≡ slotAt b i
-demand-2-booking = submitted-keeps
+-- "new board, booking, clock, withdrawal, lists, counts and stamps follow its rules". The rules stand in Clauses, clause by clause.
+-- "A new board has the W and H asked for, now 0 and 64 free slots"
+pub demand-2-new-board : (W H : ℕ) → Clear (new-board-rows W H)
+    → created W H ≡ record { number = 0; board = record { tasks = replicate 64 freeSlot; now = 0; device = device W H } }
+unfolding created refusedCreate freshBoard
+demand-2-new-board W H c = clear-done _ _ (decides-new-board W H) c
 
-pub demand-2-clock : (b : Board) (t i : ℕ) → i < length (b .tasks) → T (live (slotAt b i)) → Clocks (clocked b t .board) (slotAt b i) (slotAt (clocked b t .board) i)
-demand-2-clock = clocked-keeps
+-- booking: the lowest free slot holds the record as submitted with the column and start answered, and nothing else changes
+pub demand-2-booking : (b : Board) (n : ℕ) (a : Submission) (c s f : ℕ) → submitted b n a .answer ≡ Placed c s f → Books b a c s f (submitted b n a .board)
+demand-2-booking = books
 
-pub demand-2-withdrawal : (b : Board) (n i : ℕ) → i < length (b .tasks) → T (live (slotAt b i)) → Withdraws (b .now) n (slotAt b i) (slotAt (withdrawn b n .board) i)
-demand-2-withdrawal = withdrawn-moves-none
+-- a rejection, as a refusal, changes nothing
+pub demand-2-booking-none : (b : Board) (n : ℕ) (a : Submission) → ((c s f : ℕ) → submitted b n a .answer ≡ Placed c s f → ⊥) → submitted b n a .board ≡ b
+demand-2-booking-none = books-nothing
 
--- "event records read back as written and written again give the same bytes"
+-- clock: what has finished by then is a free slot, what is left has the phase of the instant, now is moved, and nothing else changes
+pub demand-2-clock : (b : Board) (t : ℕ) → clocked b t .number ≡ 0 → Ages t b (clocked b t .board)
+demand-2-clock = ages
+
+-- withdrawal: the slot of the one live task of that id, which is waiting, is free, and nothing else changes
+pub demand-2-withdrawal : (b : Board) (n : ℕ) → withdrawn b n .number ≡ 0 → Removes n b (withdrawn b n .board)
+demand-2-withdrawal = removes
+
+-- horizon list: the runs of equal release in their order, three words each, and how many; words beyond are left as found
+pub demand-2-horizon-list : (b : Board) (buffer : List ℕ) → listed b (length buffer) .number ≡ 0
+    → ListsRuns b buffer (listed b (length buffer) .count) (listedBuffer b buffer)
+demand-2-horizon-list = lists-runs
+
+-- busy count: how many of the columns from 1 to W some live task holds at the instant
+pub demand-2-busy : (b : Board) (i : ℕ) → counted b i .number ≡ 0 → CountsHeld b i (counted b i .count)
+demand-2-busy = counts-held
+
+-- "Openings, horizon list and busy count hand it back unchanged"
+pub demand-2-unchanged : (b : Board) (a : Submission) (s c words i : ℕ) → (opened b a s c words .board ≡ b) × (listed b words .board ≡ b) × (counted b i .board ≡ b)
+demand-2-unchanged b a s c words i = (opened-board b a s c words, listed-board b words, counted-board b i)
+
+-- stamps: the phase by start and finish alone, other fields stay; a table's records one by one
+pub demand-2-stamp : (t : ℕ) (k : Task) → Stamps t k (stamped t k)
+demand-2-stamp = stamps
+
+pub demand-2-stamps : (t : ℕ) (ks : List Task) → (length (stampedAll t ks) ≡ length ks) × ((i : ℕ) → getD (stampedAll t ks) i freeSlot ≡ stamped t (getD ks i freeSlot))
+demand-2-stamps = stamps-all
+
+-- "Event records read back as they were written"
 pub demand-2-read-back : (v : Event) → Fits v → (rest : List ℕ) → readFrom (recordOf v ++ rest) ≡ Got v (length (recordOf v))
 demand-2-read-back = read-written
 
+-- from a buffer with room, whatever follows it
+pub demand-2-buffer-read-back : (v : Event) → Fits v → (buffer rest : List ℕ) → length (recordOf v) ≤ length buffer
+    → readFrom (writtenBuffer v buffer ++ rest) ≡ Got v (length (recordOf v))
+demand-2-buffer-read-back = buffer-reads-back
+
+-- "and written again give the same bytes"
 pub demand-2-written-again : (l : List ℕ) → Bytes l → (v : Event) (size : ℕ) → readFrom l ≡ Got v size → recordOf v ≡ take size l
 demand-2-written-again = written-again
+
+-- into a buffer with room
+pub demand-2-buffer-written-again : (l : List ℕ) → Bytes l → (v : Event) (size : ℕ) → readFrom l ≡ Got v size → (buffer : List ℕ) → size ≤ length buffer
+    → (written v (length buffer) ≡ Length size) × (writtenBuffer v buffer ≡ take size l ++ drop size buffer)
+demand-2-buffer-written-again = buffer-written-again
 
 -- DEMAND 3, of the openings call on a sound board, for a well-formed task whose deadline can still be reached
 module _ (b : Board) (a : Submission) (s : SoundBoard b) (k : Reachable b a) where

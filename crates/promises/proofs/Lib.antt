@@ -1,5 +1,6 @@
 pub mod Clauses
 pub mod Refusing
+pub mod Following
 pub mod Proved
 pub mod Unique
 pub mod Session

@@ -86,6 +86,16 @@ first-once (this h) (later f g) = absurd (f h)
 first-once (later f h) (this g) = absurd (f g)
 first-once (later f h) (later e g) = first-once h g
 
+clear-first : {rows : List Row} {k : ℕ} → Clear rows → First rows k → ⊥
+clear-first (next f c) (this g) = f g
+clear-first (next f c) (later e g) = clear-first c g
+
+pub given-once : {rows : List Row} {j k : ℕ} → Given rows j → Given rows k → j ≡ k
+given-once (done c p) (done d q) = p ∙ sym q
+given-once (done c p) (refused f q) = absurd (clear-first c f)
+given-once (refused f p) (done c q) = absurd (clear-first c f)
+given-once (refused f p) (refused g q) = first-once f g
+
 pub clear-none : {rows : List Row} {k : ℕ} → Clear rows → Holding rows k → ⊥
 clear-none (next f c) (here g) = f g
 clear-none (next f c) (there h) = clear-none c h
@@ -128,7 +138,9 @@ module _ {A : Type 0} (refusing : ℕ → A) (doing : A) {ts : List Test} {rows 
     where
       by : Clear rows ⊎ First rows (refusal ts) → Given rows (number call)
       by (inl c) = done c (ap number (clear-done c) ∙ z)
-      by (inr f) = refused (subst (First rows) (sym (ap number (first-refused f) ∙ n (refusal ts))) f)
+      by (inr f) =
+          let e = sym (ap number (first-refused f) ∙ n (refusal ts)) in
+          refused (subst (First rows) e f) (subst (λ k. 0 < k) e (first-some d f))
 
   -- an answer that what is done is not is a refusal's
   pub only-first : (P : A → Type 0) → (P doing → ⊥) → P call → (k : ℕ) × First rows k × P (refusing k)
