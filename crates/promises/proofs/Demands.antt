@@ -1,19 +1,17 @@
 -- THE THREE DEMANDS, theorem by theorem. Each call's promise is one equation to the book (docs/PROMISES.md): what is said here of the book is said of the calls. Assumes nothing.
-use Prim.Native.Nat.{ℕ, suc, _/_, _≤_, _<_}
-use mathlib.Core.Path.{_≡_, refl}
+use Prim.Native.Nat.{ℕ, _/_, _≤_, _<_}
+use mathlib.Core.Path.{_≡_}
 use mathlib.Core.Logic.{_⊎_}
 use mathlib.Core.Bool.{false}
 use mathlib.Core.Option.{none, some}
 use mathlib.Core.List.{List, [], _++_, map}
-use native.Mathlib.Omega.{arith}
-use lib.ListN.{length, take, drop, getD, replicate}
-use Rattle.lists.specs.Lists.{_∈_, head?, lastOr, pairwise?, all?}
+use lib.ListN.{length, take}
+use Rattle.lists.specs.Lists.{_∈_, head?, lastOr}
 use Rattle.lists.proofs.Order.{Sorted}
 use Rattle.ways.specs.Ways.{pair}
 use Rattle.tasks.specs.declared.Task.{Task}
 use Rattle.tasks.specs.declared.Submission.{Submission}
-use Rattle.tasks.specs.Numbers.{device}
-use Rattle.tasks.specs.Tasks.{finish, freeSlot, stamped, stampedAll}
+use Rattle.tasks.specs.Tasks.{finish}
 use Rattle.columns.specs.Columns.{columns}
 use Rattle.planners.specs.Openings.{Place, openings}
 use Rattle.planners.specs.Planners.{release, visited, candidates, releasedEdges, stuffing, horizon}
@@ -39,18 +37,22 @@ use Rattle.events.specs.declared.Event.{Event}
 use Rattle.events.specs.declared.Reading.the-variants.{Got}
 use Rattle.events.specs.Records.{recordOf, readFrom, written, writtenBuffer}
 use Rattle.events.proofs.RoundTrip.{Fits, Bytes, read-written, written-again}
+use mathlib.Core.Path.{refl}
+use lib.ListN.{drop, getD, replicate}
+use Rattle.lists.specs.Lists.{pairwise?, all?}
+use Rattle.tasks.specs.Numbers.{device}
+use Rattle.tasks.specs.Tasks.{freeSlot, stamped, stampedAll}
 use Rattle.events.specs.declared.Reading.{Reading}
 use Rattle.events.specs.declared.Reading.the-variants.{End, CutShort, Unknown}
-use Rattle.events.specs.declared.Written.the-variants.{Length}
+use Rattle.events.specs.declared.Written.the-variants.{NoRoom, Length}
 use Rattle.events.specs.Records.{toldRead, toldWritten}
-use Rattle.events.proofs.Calls.{told-17, told-length}
-use Rattle.events.proofs.Writing.{short-buffer, room-buffer}
+use Rattle.events.proofs.Writing.{short-answer, short-buffer, room-answer, room-buffer}
 use Rattle.promises.proofs.Clauses.{Row, First, Clear, Given, Holding, Rises, Reads}
 use Rattle.promises.proofs.Clauses.{new-board-rows, submission-rows, instant-rows, withdrawal-rows, openings-rows, horizon-rows}
 use Rattle.board.proofs.Looked.{listed-board, counted-board}
 use Rattle.promises.proofs.Clauses.{Books, Ages, Removes, ListsRuns, CountsHeld, Stamps}
 use Rattle.promises.proofs.Following.{books, books-nothing, ages, removes, lists-runs, counts-held, opened-board, stamps, stamps-all, buffer-reads-back, buffer-written-again}
-use Rattle.promises.proofs.Refusing.{first-refused, clear-done, told-given, given-once, clear-none, first-lowest, refused-first, what-reads, reads-that}
+use Rattle.promises.proofs.Refusing.{first-refused, clear-done, told-given, given-once, clear-first, first-lowest, refused-first, what-reads, reads-that}
 use Rattle.promises.proofs.Refusing.{decides-new-board, decides-submission, decides-instant, decides-withdrawal, decides-openings, decides-horizon}
 
 -- DEMAND 1. "Every call takes any board, task, instant or buffer and ends": no public call has a `requires`, and each is proved to end.
@@ -117,12 +119,12 @@ pub demand-1-new-board-only : (W H : ℕ) → Given (new-board-rows W H) (create
 unfolding created refusedCreate
 demand-1-new-board-only W H = told-given _ _ (decides-new-board W H) (λ (r : Created). r .number) refl (λ k. refl)
 
--- the rows give one number only, and none of them holds where they are clear
+-- the rows give one number only, and no refusal where none holds
 pub demand-1-one-number : {rows : List Row} {j k : ℕ} → Given rows j → Given rows k → j ≡ k
 demand-1-one-number = given-once
 
-pub demand-1-none-holds : {rows : List Row} {k : ℕ} → Clear rows → Holding rows k → ⊥
-demand-1-none-holds = clear-none
+pub demand-1-none-first : {rows : List Row} {k : ℕ} → Clear rows → First rows k → ⊥
+demand-1-none-first = clear-first
 
 -- "Several at once: the lowest number wins": the numbers of every call's rows rise, and then no row that holds has a lower one than the first
 pub demand-1-lowest : {rows : List Row} {j k : ℕ} → Rises rows → First rows k → Holding rows j → k ≤ j
@@ -130,8 +132,9 @@ demand-1-lowest = first-lowest
 
 pub demand-1-rising : (b : Board) (n i words : ℕ) (a : Submission)
     → Rises (submission-rows b n a) × Rises (instant-rows b i) × Rises (withdrawal-rows b n) × Rises (openings-rows b a) × Rises (horizon-rows b words)
+    × Rises (new-board-rows n i)
 unfolding pairwise? all?
-demand-1-rising b n i words a = (tt, tt, tt, tt, tt)
+demand-1-rising b n i words a = (tt, tt, tt, tt, tt, tt)
 
 -- the reader's 15, 16 and end: exactly when `Reads` says so, with "the kind byte, no event and 0 bytes taken"
 pub demand-1-reader : (l : List ℕ) → Reads l (readFrom l)
@@ -147,14 +150,17 @@ demand-1-reader-told kind = (refl, refl, refl)
 
 -- the writer's 17: exactly when the record is longer than the buffer, and then every byte stays
 pub demand-1-writer : (v : Event) (buffer : List ℕ) → length buffer < length (recordOf v)
-    → (toldWritten (written v (length buffer)) ≡ record { number = 17; length = 0 }) × (writtenBuffer v buffer ≡ buffer)
-demand-1-writer v buffer h = (told-17 v buffer h, short-buffer v buffer h)
+    → (written v (length buffer) ≡ NoRoom) × (writtenBuffer v buffer ≡ buffer)
+demand-1-writer v buffer h = (short-answer v buffer h, short-buffer v buffer h)
 
--- otherwise the record stands over the front, and the bytes beyond it stay
+-- otherwise its length is told, it stands over the front, and the bytes beyond it stay
 pub demand-1-writer-done : (v : Event) (buffer : List ℕ) → length (recordOf v) ≤ length buffer
-    → (toldWritten (written v (length buffer)) ≡ record { number = 0; length = length (recordOf v) })
-    × (writtenBuffer v buffer ≡ recordOf v ++ drop (length (recordOf v)) buffer)
-demand-1-writer-done v buffer h = (told-length v buffer h, room-buffer v buffer h)
+    → (written v (length buffer) ≡ Length (length (recordOf v))) × (writtenBuffer v buffer ≡ recordOf v ++ drop (length (recordOf v)) buffer)
+demand-1-writer-done v buffer h = (room-answer v buffer h, room-buffer v buffer h)
+
+pub demand-1-writer-told : (n : ℕ) → (toldWritten NoRoom ≡ record { number = 17; length = 0 }) × (toldWritten (Length n) ≡ record { number = 0; length = n })
+unfolding toldWritten
+demand-1-writer-told n = (refl, refl)
 
 -- DEMAND 2. "Reference, Horizon and Stuffing answer exactly as published": at the least visited time that has a candidate, with the first there
 pub demand-2-stuffing : (W now : ℕ) (ts : List Task) (a : Submission) {p : Place} → stuffing W now ts a ≡ some p → Answers (candidates W now ts a) (visited W now ts a (map finish ts)) p

@@ -1,27 +1,25 @@
 -- Booking, clock, withdrawal, horizon list, busy count and stamps do what document 01 says, clause by clause. Assumes nothing.
 use Prim.Native.Nat.{ℕ, zero, suc, _+_, _*_, _/_, _≤_, _<_}
 use mathlib.Core.Path.{_≡_, refl, sym, ap, _∙_, subst}
-use mathlib.Core.Logic.{_⊎_, inl, inr}
 use mathlib.Core.Bool.{Bool, true, false, not, cond, _&&_}
 use mathlib.Core.List.{List, [], _∷_, _++_, map, append-assoc}
 use native.Mathlib.Omega.{arith}
-use native.Mathlib.Numerals.{add-one}
 use native.Mathlib.Decide.{decLt}
-use lib.Dec.{T, ltb, eqb, ltb→lt, nltb→le, eqb→eq, eqb-refl, T-not, not-T}
+use lib.Dec.{T, ltb, eqb, ltb→lt, nltb→le, eqb→eq, T-not}
 use lib.ListN.{length, getD, set, drop, take, length-set, length-map, List·getD-map, List·getD-eq-default}
 use lib.Seq.{getD-set-same, getD-set-other, length-take-le}
-use borrow.Author.Tests.{lt-ltb, le-ltb}
-use Rattle.lists.specs.Lists.{_∈_, keep, some?, indexOf, overFront}
-use Rattle.lists.proofs.Bools.{and-l, and-r, and-i, is-true, is-false, not-not, bool}
+use borrow.Author.Tests.{lt-ltb}
+use Rattle.lists.specs.Lists.{keep, some?, indexOf, overFront}
+use Rattle.lists.proofs.Bools.{and-l, and-r, and-i, not-not}
 use Rattle.lists.proofs.Members.{keep-in, in-keep, none-pass, some-pass, pass-some, range-in, in-range, getD-in}
-use Rattle.lists.proofs.Order.{Sorted, sorted-keep, sorted-range, sorted-at}
+use Rattle.lists.proofs.Order.{sorted-keep, sorted-range, sorted-at}
 use Rattle.lists.proofs.Append.{index-test, index-passes, put-index}
 use Rattle.tasks.specs.declared.Phase.{Phase}
 use Rattle.tasks.specs.declared.Phase.the-variants.{Ended, Waiting, Running}
 use Rattle.tasks.specs.declared.Task.{Task}
 use Rattle.tasks.specs.declared.Submission.{Submission}
 use Rattle.tasks.specs.Tasks.{finish, phaseAt, live, livePhase, waitingPhase, inPhase, stamped, stampedAll, freeSlot, booked, holds}
-use Rattle.tasks.proofs.Laws.{Holds, holds-out, holds-in, phase-waiting, phase-running, phase-ended}
+use Rattle.tasks.proofs.Laws.{holds-out, holds-in, phase-waiting, phase-running, phase-ended}
 use Rattle.columns.specs.Columns.{columns}
 use Rattle.slots.specs.Slots.{named, known, begunNamed, withoutNamed}
 use Rattle.slots.proofs.Soundness.{Together, sound-out}
@@ -31,8 +29,7 @@ use Rattle.lookups.proofs.HorizonList.{listed-equal, equal-listed, horizon-orde
 use Rattle.lookups.proofs.Busy.{busy-held}
 use Rattle.refusals.proofs.First.{none-holds}
 use Rattle.board.specs.declared.Board.{Board}
-use Rattle.board.specs.declared.Answer.{Answer}
-use Rattle.board.specs.declared.Answer.the-variants.{Rejected, Placed, Refused}
+use Rattle.board.specs.declared.Answer.the-variants.{Placed}
 use Rattle.board.specs.declared.Clocked.{Clocked}
 use Rattle.board.specs.declared.Withdrawn.{Withdrawn}
 use Rattle.board.specs.declared.Listed.{Listed}
@@ -41,7 +38,7 @@ use Rattle.board.specs.declared.Opened.{Opened}
 use Rattle.board.specs.Refusals.{liveOf, soundBoard, horizonOf, refusedInstant, refusedWithdraw, refusedOpenings, refusedHorizon}
 use Rattle.board.specs.Calls.{orRefused, withTasks, submitted, boardAt, clocked, withdrawn, remaining, opened, listed, listedBuffer, counted}
 use Rattle.board.proofs.Kept.{SoundBoard, slotAt}
-use Rattle.board.proofs.Placed.{BooksAt, placed-books, unplaced-same}
+use Rattle.board.proofs.Placed.{placed-books, unplaced-same}
 use Rattle.events.specs.declared.Event.{Event}
 use Rattle.events.specs.declared.Reading.the-variants.{Got}
 use Rattle.events.specs.declared.Written.the-variants.{Length}
@@ -139,7 +136,7 @@ removes b n e = record {
   slot = slot;
   inside = inside;
   id = id-of (slotAt b slot) is;
-  waits = waiting (slotAt b slot .phase) (lives (slotAt b slot) is) (λ t. T-not (begun (slotAt b slot)) (none-pass begun (b .tasks) (passed .2) (getD-in (b .tasks) slot freeSlot inside)) (and-i (named n (slotAt b slot)) (not (waitingPhase (slotAt b slot .phase))) is t));
+  waits = waiting (slotAt b slot .phase) (lives (slotAt b slot) is) (λ t. not-begun (and-i (named n (slotAt b slot)) (not (waitingPhase (slotAt b slot .phase))) is t));
   only = λ i l h. order i l h (within i l) (decLt slot i) (decLt i slot);
   freed = ap (λ x. slotAt x slot) q ∙ getD-set-same (b .tasks) slot freeSlot freeSlot inside;
   others = λ i g. ap (λ x. slotAt x i) q ∙ getD-set-other (b .tasks) slot i freeSlot freeSlot g;
@@ -181,6 +178,9 @@ removes b n e = record {
 
     is : T (named n (slotAt b slot))
     is = index-passes (named n) (b .tasks) freeSlot inside
+
+    not-begun : T (begun (slotAt b slot)) → ⊥
+    not-begun t = T-not (begun (slotAt b slot)) (none-pass begun (b .tasks) (passed .2) (getD-in (b .tasks) slot freeSlot inside)) t
 
     lives : (k : Task) → T (named n k) → T (live k)
     lives k t = unfold named in and-l (live k) (eqb (k .id) n) t

@@ -9,22 +9,21 @@ use native.Mathlib.Omega.{arith}
 use native.Mathlib.Decide.{decLt}
 use lib.Dec.{T, leb, ltb, eqb, leb→le, le→leb, ltb→lt, lt→ltb, eqb→eq, eqb-refl, T-not, not-T}
 use lib.ListN.{length}
-use Rattle.lists.specs.Lists.{_∈_, all?, pairwise?, some?}
-use Rattle.lists.proofs.Bools.{and-l, and-r, and-i, is-true, is-false, not-not}
+use Rattle.lists.specs.Lists.{_∈_, all?, pairwise?}
+use Rattle.lists.proofs.Bools.{and-l, and-r, and-i, is-true, is-false}
 use Rattle.lists.proofs.Members.{keep-in, in-keep, some-pass, pass-some}
 use Rattle.tasks.specs.declared.Phase.{Phase}
 use Rattle.tasks.specs.declared.Phase.the-variants.{Ended, Waiting, Running}
-use Rattle.tasks.specs.declared.Task.{Task}
 use Rattle.tasks.specs.declared.Submission.{Submission}
-use Rattle.tasks.specs.Numbers.{within, device, deviceFits, sizeFits, timeFits, longest, lastInstant, lastPlanner}
-use Rattle.tasks.specs.Tasks.{live, livePhase, waitingPhase, freeSlot}
-use Rattle.tasks.proofs.Laws.{Between, within-out, within-in}
+use Rattle.tasks.specs.Numbers.{within, device, deviceFits, longest, lastInstant}
+use Rattle.tasks.specs.Tasks.{live, livePhase, waitingPhase}
+use Rattle.tasks.proofs.Laws.{within-out, within-in}
 use Rattle.slots.specs.Slots.{named, known, begunNamed}
 use Rattle.slots.proofs.Soundness.{sound-out, sound-in}
-use Rattle.refusals.specs.Refusals.{Test, refusal, unsound, badSize, badTime, tooLate, createTests, submitTests, instantTests, withdrawTests, openingsTests, horizonTests}
+use Rattle.refusals.specs.Refusals.{Test, refusal, unsound, badSize, badTime, createTests, submitTests, instantTests, withdrawTests, openingsTests, horizonTests}
 use Rattle.board.specs.declared.Board.{Board}
 use Rattle.board.specs.Refusals.{liveOf, soundBoard, horizonOf}
-use Rattle.board.specs.declared.Answer.the-variants.{Rejected, Placed, Refused}
+use Rattle.board.specs.declared.Answer.the-variants.{Refused}
 use Rattle.board.specs.Refusals.{refusedSubmit}
 use Rattle.board.specs.Calls.{orRefused, taken, answered, submitted}
 use Rattle.planners.specs.Openings.{Place}
@@ -35,7 +34,7 @@ use Rattle.events.proofs.Found.{Found, got, cut as is-cut, none as no-kind, fou
 use Rattle.events.proofs.Calls.{judges-none}
 use Rattle.promises.proofs.Clauses.{Reads, at-end, whole, cut, unknown}
 use Rattle.promises.proofs.Clauses.{Row, _when_, First, this, later, Clear, empty, next, Given, done, refused, Holding, here, there, numbers, Rises, Outside, LiveTask}
-use Rattle.promises.proofs.Clauses.{not-sound, bad-size, bad-time, too-late, new-board-rows, submission-rows, instant-rows, withdrawal-rows, openings-rows, horizon-rows}
+use Rattle.promises.proofs.Clauses.{not-sound, bad-size, bad-time, new-board-rows, submission-rows, instant-rows, withdrawal-rows, openings-rows, horizon-rows}
 
 -- TESTS AND ROWS: each test has the number of its row, and holds exactly when the row does
 pub record Decided (s : Test) (r : Row) : Type 1 where
@@ -79,14 +78,14 @@ pub first-some : {ts : List Test} {rows : List Row} {k : ℕ} → Decides ts row
 first-some (row d ds) (this h) = d .some
 first-some (row d ds) (later f h) = first-some ds h
 
--- ONE NUMBER only is given, and a row that holds is none of a clear list
+-- ONE NUMBER only is given
 pub first-once : {rows : List Row} {j k : ℕ} → First rows j → First rows k → j ≡ k
 first-once (this h) (this g) = refl
 first-once (this h) (later f g) = absurd (f h)
 first-once (later f h) (this g) = absurd (f g)
 first-once (later f h) (later e g) = first-once h g
 
-clear-first : {rows : List Row} {k : ℕ} → Clear rows → First rows k → ⊥
+pub clear-first : {rows : List Row} {k : ℕ} → Clear rows → First rows k → ⊥
 clear-first (next f c) (this g) = f g
 clear-first (next f c) (later e g) = clear-first c g
 
@@ -95,10 +94,6 @@ given-once (done c p) (done d q) = p ∙ sym q
 given-once (done c p) (refused f q) = absurd (clear-first c f)
 given-once (refused f p) (done c q) = absurd (clear-first c f)
 given-once (refused f p) (refused g q) = first-once f g
-
-pub clear-none : {rows : List Row} {k : ℕ} → Clear rows → Holding rows k → ⊥
-clear-none (next f c) (here g) = f g
-clear-none (next f c) (there h) = clear-none c h
 
 -- FIRST IS LOWEST where the numbers rise
 pub first-lowest : {rows : List Row} {k j : ℕ} → Rises rows → First rows k → Holding rows j → k ≤ j
