@@ -52,6 +52,7 @@ use Rattle.promises.proofs.Clauses.{new-board-rows, submission-rows, in
 use Rattle.board.proofs.Looked.{listed-board, counted-board}
 use Rattle.promises.proofs.Clauses.{Books, Ages, Removes, ListsRuns, CountsHeld, Stamps}
 use Rattle.promises.proofs.Following.{books, books-nothing, ages, removes, lists-runs, counts-held, opened-board, stamps, stamps-all, buffer-reads-back, buffer-written-again}
+use Rattle.promises.proofs.Settled.{books-settled, ages-settled, removes-settled, runs-settled, held-settled, stamps-settled}
 use Rattle.promises.proofs.Refusing.{first-refused, clear-done, told-given, given-once, clear-first, first-lowest, refused-first, what-reads, reads-that}
 use Rattle.promises.proofs.Refusing.{decides-new-board, decides-submission, decides-instant, decides-withdrawal, decides-openings, decides-horizon}
 
@@ -209,6 +210,16 @@ demand-2-horizon-list = lists-runs
 -- busy count: how many of the columns from 1 to W some live task holds at the instant
 pub demand-2-busy : (b : Board) (i : ℕ) → counted b i .number ≡ 0 → CountsHeld b i (counted b i .count)
 demand-2-busy = counts-held
+
+-- the clauses leave nothing open: any two results that follow them are equal, so that a call that did less, more or another thing would not
+pub demand-2-settled : {b : Board} {a : Submission} {c s f n t i m j : ℕ} {x y : Board} {buffer u v : List ℕ} {k k₁ k₂ : Task}
+    → (Books b a c s f x → Books b a c s f y → x ≡ y)
+    × (Ages t b x → Ages t b y → x ≡ y)
+    × (Removes n b x → Removes n b y → x ≡ y)
+    × (ListsRuns b buffer m u → ListsRuns b buffer j v → (m ≡ j) × (u ≡ v))
+    × (CountsHeld b i m → CountsHeld b i j → m ≡ j)
+    × (Stamps t k k₁ → Stamps t k k₂ → k₁ ≡ k₂)
+demand-2-settled = (books-settled, ages-settled, removes-settled, runs-settled, held-settled, stamps-settled)
 
 -- "Openings, horizon list and busy count hand it back unchanged"
 pub demand-2-unchanged : (b : Board) (a : Submission) (s c words i : ℕ) → (opened b a s c words .board ≡ b) × (listed b words .board ≡ b) × (counted b i .board ≡ b)
