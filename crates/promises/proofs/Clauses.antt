@@ -24,6 +24,10 @@ use Rattle.events.specs.declared.Reading.{Reading}
 use Rattle.events.specs.declared.Reading.the-variants.{End, Got, CutShort, Unknown}
 use Rattle.events.proofs.Found.{Known, NoKind}
 
+-- what is asked of a call's lifetimes and arguments holds of any
+abbrev pub Any {κ ℓ} : {K : Type κ} {A : Type ℓ} → (K → A → Type 0) → Type (κ ⊔ ℓ)
+Any {K} {A} asked = (κs : K) (a : A) → asked κs a
+
 -- A ROW of "Answer numbers": the number, "given exactly when"
 pub record Row : Type 1 where
   pub number : ℕ
@@ -126,7 +130,7 @@ pub data Reads : List ℕ → Reading → Type 0 where
 abbrev pub begunBy : ℕ → ℕ → Phase
 begunBy now s = cond (ltb now s) Waiting Running
 
--- BOOKING of a place: "A task answered 0 takes the lowest free slot, its record as submitted with the column and start answered, and nothing else in the board changes"
+-- BOOKING: "A task answered 0 takes the lowest free slot, its record as submitted with the column and start answered, and nothing else in the board changes"
 pub record Books (b : Board) (a : Submission) (c s f : ℕ) (b′ : Board) : Type 0 where
   -- the finish that is told
   pub finish : f ≡ s + a .e
@@ -173,6 +177,7 @@ pub record Removes (n : ℕ) (b b′ : Board) : Type 0 where
 
 -- HORIZON LIST: "First column, last column, release for each longest run of columns with equal release, by release and then column"; "returns the number of runs"
 pub record ListsRuns (b : Board) (buffer : List ℕ) (count : ℕ) (after : List ℕ) : Type 0 where
+  -- the longest runs of columns with equal release, each once
   pub runs : List Strip
   pub only : (s : Strip) → s ∈ runs → EqualRelease (b .device .columns) (b .now) (liveOf b) s
   pub every : (s : Strip) → EqualRelease (b .device .columns) (b .now) (liveOf b) s → s ∈ runs

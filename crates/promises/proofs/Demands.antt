@@ -47,7 +47,18 @@ use Rattle.events.specs.declared.Reading.the-variants.{End, CutShort, Unknown}
 use Rattle.events.specs.declared.Written.the-variants.{NoRoom, Length}
 use Rattle.events.specs.Records.{toldRead, toldWritten}
 use Rattle.events.proofs.Writing.{short-answer, short-buffer, room-answer, room-buffer}
-use Rattle.promises.proofs.Clauses.{Row, First, Clear, Given, Holding, Rises, Reads}
+use Rattle.board.proofs.Board.new.Reads as new
+use Rattle.board.proofs.Board.submit.Reads as submit
+use Rattle.board.proofs.Board.clock.Reads as clock
+use Rattle.board.proofs.Board.withdraw.Reads as withdraw
+use Rattle.board.proofs.Board.openings.Reads as openings-call
+use Rattle.board.proofs.Board.horizon.Reads as horizon-call
+use Rattle.board.proofs.Board.busy.Reads as busy
+use Rattle.tasks.proofs.stamp.Reads as stamp
+use Rattle.events.proofs.read.Reads as read
+use Rattle.events.proofs.read_at.Reads as read-at
+use Rattle.events.proofs.write.Reads as write
+use Rattle.promises.proofs.Clauses.{Any, Row, First, Clear, Given, Holding, Rises, Reads}
 use Rattle.promises.proofs.Clauses.{new-board-rows, submission-rows, instant-rows, withdrawal-rows, openings-rows, horizon-rows}
 use Rattle.board.proofs.Looked.{listed-board, counted-board}
 use Rattle.promises.proofs.Clauses.{Books, Ages, Removes, ListsRuns, CountsHeld, Stamps}
@@ -56,10 +67,17 @@ use Rattle.promises.proofs.Settled.{books-settled, ages-settled, remove
 use Rattle.promises.proofs.Refusing.{first-refused, clear-done, told-given, given-once, clear-first, first-lowest, refused-first, what-reads, reads-that}
 use Rattle.promises.proofs.Refusing.{decides-new-board, decides-submission, decides-instant, decides-withdrawal, decides-openings, decides-horizon}
 
--- DEMAND 1. "Every call takes any board, task, instant or buffer and ends": no public call has a `requires`, and each is proved to end.
--- "Bad input gets the refusal number that document 01 fixes, in its order of checks": each call's rows, number and "given exactly when" in that
--- order, stand in Clauses. `First rows k`: the first row that holds has the number k; `Clear rows`: none holds; `Given rows k`: one of these, k being 0 where none holds.
--- "a refusal hands the board back as it came and writes nothing to a lent buffer": the first row that holds gives the whole answer
+-- DEMAND 1. "Every call takes any board, task, instant or buffer and ends": a caller has nothing to show (`X.Asked` is the `requires` of X as they
+-- stand in the code; `stamp_all` is walked by hand, so that its `Asked` cannot be read, and has none), and each call is proved to end.
+pub demand-1-takes-any : Any new.Asked × Any submit.Asked × Any clock.Asked × Any withdraw.Asked × Any openings-call.Asked × Any horizon-call.Asked
+    × Any busy.Asked × Any stamp.Asked × Any read.Asked × Any read-at.Asked × Any write.Asked
+demand-1-takes-any =
+    (λ κs a. tt, λ κs a. tt, λ κs a. tt, λ κs a. tt, λ κs a. tt, λ κs a. tt, λ κs a. tt, λ κs a. tt, λ κs a. tt, λ κs a. tt, λ κs a. tt)
+
+-- "Bad input gets the refusal number that document 01 fixes, in its order of checks; a refusal hands the board back as it came and writes nothing
+-- to a lent buffer." Each call's rows stand in Clauses: a number and when exactly it is given, in the order of its checks. `First rows k`: the first
+-- row that holds has the number k. `Clear rows`: none holds. `Given rows k`: k is the number of the first that holds, or 0 where none does.
+-- The first row that holds gives the whole answer:
 pub demand-1-submission : (b : Board) (n : ℕ) (a : Submission) {k : ℕ} → First (submission-rows b n a) k → submitted b n a ≡ record { answer = Refused k; board = b }
 unfolding submitted refusedSubmit
 demand-1-submission b n a f = first-refused _ _ (decides-submission b n a) f
@@ -92,7 +110,7 @@ pub demand-1-new-board : (W H : ℕ) {k : ℕ} → First (new-board-rows W H) k
 unfolding created refusedCreate freshBoard
 demand-1-new-board W H f = first-refused _ _ (decides-new-board W H) f
 
--- and no other number is given: the number of any answer is that of the first row that holds, and 0 where none does
+-- and nothing else gives a number: that of any answer is the number of the first row that holds, or 0 where none does
 pub demand-1-submission-only : (b : Board) (n : ℕ) (a : Submission) (k : ℕ) → submitted b n a .answer ≡ Refused k → First (submission-rows b n a) k
 demand-1-submission-only = refused-first
 
@@ -137,7 +155,7 @@ pub demand-1-rising : (b : Board) (n i words : ℕ) (a : Submission)
 unfolding pairwise? all?
 demand-1-rising b n i words a = (tt, tt, tt, tt, tt, tt)
 
--- the reader's 15, 16 and end: exactly when `Reads` says so, with "the kind byte, no event and 0 bytes taken"
+-- "Bad input gets the refusal number": the reader's 15, 16 and end, exactly when `Reads` says so, with "the kind byte, no event and 0 bytes taken"
 pub demand-1-reader : (l : List ℕ) → Reads l (readFrom l)
 demand-1-reader = what-reads
 
@@ -149,7 +167,7 @@ pub demand-1-reader-told : (kind : ℕ) → (toldRead (CutShort kind) ≡ record
 unfolding toldRead
 demand-1-reader-told kind = (refl, refl, refl)
 
--- the writer's 17: exactly when the record is longer than the buffer, and then every byte stays
+-- "writes nothing to a lent buffer": the writer's 17, exactly when the record is longer than the buffer, and then every byte stays
 pub demand-1-writer : (v : Event) (buffer : List ℕ) → length buffer < length (recordOf v)
     → (written v (length buffer) ≡ NoRoom) × (writtenBuffer v buffer ≡ buffer)
 demand-1-writer v buffer h = (short-answer v buffer h, short-buffer v buffer h)
@@ -179,8 +197,8 @@ pub demand-2-horizon-rejects : (W now : ℕ) (ts : List Task) (a : Submission) �
     → (i : ℕ) → i ∈ visited W now ts a (map (release now ts) (columns W)) → releasedEdges W now ts a i ≡ []
 demand-2-horizon-rejects W now ts a e = horizon-rejects W now ts a e
 
--- "new board, booking, clock, withdrawal, lists, counts and stamps follow its rules". The rules stand in Clauses, clause by clause.
--- "A new board has the W and H asked for, now 0 and 64 free slots"
+-- "new board, booking, clock, withdrawal, lists, counts and stamps follow its rules": the rules stand in Clauses, clause by clause.
+-- A new board "has the W and H asked for, now 0 and 64 free slots"
 pub demand-2-new-board : (W H : ℕ) → Clear (new-board-rows W H)
     → created W H ≡ record { number = 0; board = record { tasks = replicate 64 freeSlot; now = 0; device = device W H } }
 unfolding created refusedCreate freshBoard
