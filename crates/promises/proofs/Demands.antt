@@ -48,6 +48,7 @@ use Rattle.events.specs.declared.Written.the-variants.{NoRoom, Length}
 use Rattle.events.specs.Records.{toldRead, toldWritten}
 use Rattle.events.proofs.Writing.{short-answer, short-buffer, room-answer, room-buffer}
 use Rattle.board.proofs.Board.new.Reads as new
+use Rattle.board.proofs.Board.is_sound.Reads as is-sound
 use Rattle.board.proofs.Board.submit.Reads as submit
 use Rattle.board.proofs.Board.clock.Reads as clock
 use Rattle.board.proofs.Board.withdraw.Reads as withdraw
@@ -60,6 +61,10 @@ use Rattle.events.proofs.read_at.Reads as read-at
 use Rattle.events.proofs.write.Reads as write
 use Rattle.promises.proofs.Clauses.{Any, Row, First, Clear, Given, Holding, Rises, Reads}
 use Rattle.promises.proofs.Clauses.{new-board-rows, submission-rows, instant-rows, withdrawal-rows, openings-rows, horizon-rows}
+use lib.Dec.{T}
+use Rattle.slots.proofs.Soundness.{sound-out, sound-in}
+use Rattle.board.specs.Refusals.{soundBoard}
+use Rattle.board.specs.Answers.{told}
 use Rattle.board.proofs.Looked.{listed-board, counted-board}
 use Rattle.promises.proofs.Clauses.{Books, Ages, Removes, ListsRuns, CountsHeld, Stamps}
 use Rattle.promises.proofs.Following.{books, books-nothing, ages, removes, lists-runs, counts-held, opened-board, stamps, stamps-all, buffer-reads-back, buffer-written-again}
@@ -68,11 +73,11 @@ use Rattle.promises.proofs.Refusing.{first-refused, clear-done, told-gi
 use Rattle.promises.proofs.Refusing.{decides-new-board, decides-submission, decides-instant, decides-withdrawal, decides-openings, decides-horizon}
 
 -- DEMAND 1. "Every call takes any board, task, instant or buffer and ends": a caller has nothing to show (`X.Asked` is the `requires` of X as they
--- stand in the code; `stamp_all` is walked by hand, so that its `Asked` cannot be read, and has none), and each call is proved to end.
-pub demand-1-takes-any : Any new.Asked × Any submit.Asked × Any clock.Asked × Any withdraw.Asked × Any openings-call.Asked × Any horizon-call.Asked
+-- stand in the code; `stamp_all`, walked by hand, has no `Asked` to read, and no `requires`), and each call is proved to end.
+pub demand-1-takes-any : Any new.Asked × Any is-sound.Asked × Any submit.Asked × Any clock.Asked × Any withdraw.Asked × Any openings-call.Asked × Any horizon-call.Asked
     × Any busy.Asked × Any stamp.Asked × Any read.Asked × Any read-at.Asked × Any write.Asked
 demand-1-takes-any =
-    (λ κs a. tt, λ κs a. tt, λ κs a. tt, λ κs a. tt, λ κs a. tt, λ κs a. tt, λ κs a. tt, λ κs a. tt, λ κs a. tt, λ κs a. tt, λ κs a. tt)
+    (λ κs a. tt, λ κs a. tt, λ κs a. tt, λ κs a. tt, λ κs a. tt, λ κs a. tt, λ κs a. tt, λ κs a. tt, λ κs a. tt, λ κs a. tt, λ κs a. tt, λ κs a. tt)
 
 -- "Bad input gets the refusal number that document 01 fixes, in its order of checks; a refusal hands the board back as it came and writes nothing
 -- to a lent buffer." Each call's rows stand in Clauses: a number and when exactly it is given, in the order of its checks. `First rows k`: the first
@@ -114,6 +119,9 @@ demand-1-new-board W H f = first-refused _ _ (decides-new-board W H) f
 pub demand-1-submission-only : (b : Board) (n : ℕ) (a : Submission) (k : ℕ) → submitted b n a .answer ≡ Refused k → First (submission-rows b n a) k
 demand-1-submission-only = refused-first
 
+pub demand-1-submission-done : (b : Board) (n : ℕ) (a : Submission) → Clear (submission-rows b n a) → (k : ℕ) → submitted b n a .answer ≡ Refused k → ⊥
+demand-1-submission-done b n a c k e = clear-first c (refused-first b n a k e)
+
 pub demand-1-clock-only : (b : Board) (i : ℕ) → Given (instant-rows b i) (clocked b i .number)
 unfolding clocked refusedInstant
 demand-1-clock-only b i = told-given _ _ (decides-instant b i) (λ (r : Clocked). r .number) refl (λ k. refl)
@@ -137,6 +145,16 @@ demand-1-busy-only b i = told-given _ _ (decides-instant b i) (λ (r : Counted).
 pub demand-1-new-board-only : (W H : ℕ) → Given (new-board-rows W H) (created W H .number)
 unfolding created refusedCreate
 demand-1-new-board-only W H = told-given _ _ (decides-new-board W H) (λ (r : Created). r .number) refl (λ k. refl)
+
+-- the number that is told of a submission: "Column, start and finish are 0 unless the answer is 0"; 10 is the rejection
+pub demand-1-submission-told : (k c s f : ℕ) → (told (Refused k) ≡ record { number = k; column = 0; start = 0; finish = 0 })
+    × (told Rejected ≡ record { number = 10; column = 0; start = 0; finish = 0 }) × (told (Placed c s f) ≡ record { number = 0; column = c; start = s; finish = f })
+unfolding told
+demand-1-submission-told k c s f = (refl, refl, refl)
+
+-- row 1 is what `is_sound` tells
+pub demand-1-sound : (b : Board) → (T (soundBoard b) → SoundBoard b) × (SoundBoard b → T (soundBoard b))
+demand-1-sound b = (sound-out (b .device) (b .now) (b .tasks), sound-in (b .device) (b .now) (b .tasks))
 
 -- the rows give one number only, and no refusal where none holds
 pub demand-1-one-number : {rows : List Row} {j k : ℕ} → Given rows j → Given rows k → j ≡ k
