@@ -1,3 +1,7 @@
+pub mod Clauses
+pub mod Refusing
+pub mod Following
+pub mod Settled
 pub mod Proved
 pub mod Unique
 pub mod Session
