@@ -6,7 +6,7 @@ use mathlib.Core.List.{List, [], _∷_, _++_, append-nil, List·Memᴰ·head as 
 use native.Mathlib.Omega.{arith}
 use native.Mathlib.Decide.{decLt}
 use borrow.Author.Tests.{ltb-true, ltb-false}
-use lib.Dec.{ltb}
+use lib.Dec.{T, ltb}
 use lib.ListN.{length, take, drop, getD, replicate, length-take, length-drop, take-append-drop}
 use lib.Seq.{take-all}
 use Rattle.lists.specs.Lists.{_∈_, lastOr, overFront}
@@ -34,17 +34,17 @@ module _ (b : Board) (a : Submission) where
   reply p buffer = opened b a (p .start) (p .place) (length buffer)
 
   -- ASKING ON: a call with each buffer in turn, after the last pair that the call before gave, for as long as the answer says that a further one remains
-  pub askingOn : Place → List (List ℕ) → List Place
+  unfoldable pub askingOn : Place → List (List ℕ) → List Place
   askingOn p [] = []
   askingOn p (buffer ∷ rest) = given b a p buffer ++ cond (reply p buffer .more) (askingOn (lastOr p (given b a p buffer)) rest) []
 
   -- what each of these calls says: whether a further one remains
-  pub saidMore : Place → List (List ℕ) → List Bool
+  unfoldable pub saidMore : Place → List (List ℕ) → List Bool
   saidMore p [] = []
   saidMore p (buffer ∷ rest) = reply p buffer .more ∷ cond (reply p buffer .more) (saidMore (lastOr p (given b a p buffer)) rest) []
 
 -- every buffer has room for one opening or more
-pub Roomy : List (List ℕ) → Type 0
+abbrev pub Roomy : List (List ℕ) → Type 0
 Roomy buffers = (buffer : List ℕ) → buffer ∈ buffers → 2 ≤ length buffer
 
 -- no pair comes before itself
@@ -112,7 +112,7 @@ module _ (b : Board) (a : Submission) (s : SoundBoard b) (k : Reachable b a) whe
 
   -- ASKING ON GIVES ALL, whatever the buffers, if each has room for one or more and there are as many as openings
   on-gives : (p : Place) (buffers : List (List ℕ)) → Roomy buffers → length (left p) ≤ length buffers → askingOn b a p buffers ≡ left p
-  unfolding askingOn Roomy
+  unfolding askingOn
   on-gives p [] r l = none-of (left p) l
     where
       none-of : (ps : List Place) → length ps ≤ 0 → [] ≡ ps
@@ -139,7 +139,7 @@ module _ (b : Board) (a : Submission) (s : SoundBoard b) (k : Reachable b a) whe
   -- AND IT ENDS: the last of the calls says that none remains, every one before it that one does
   on-ends : (p : Place) (buffers : List (List ℕ)) → Roomy buffers → 1 ≤ length buffers → length (left p) ≤ length buffers
       → (n : ℕ) × (saidMore b a p buffers ≡ replicate n true ++ (false ∷ []))
-  unfolding saidMore Roomy
+  unfolding saidMore
   on-ends p [] r one l = absurd (omega arith)
   on-ends p (buffer ∷ rest) r one l = go (λ h i. on-ends last rest (λ w m. r w (there m)) h i) (reply b a p buffer .more) (more-left b a s k p (length buffer))
     where
@@ -162,8 +162,30 @@ module _ (b : Board) (a : Submission) (s : SoundBoard b) (k : Reachable b a) whe
           let x = next (omega arith) (omega arith) in
           (suc (x .0), ap (λ ms. true ∷ ms) {y = replicate (x .0) true ++ (false ∷ [])} (x .1))
 
+  -- WHEN A CALL HAS SAID THAT NONE REMAINS, all have been given, whatever the buffers
+  off-gave : (p : Place) (buffers : List (List ℕ)) (n : ℕ) → saidMore b a p buffers ≡ replicate n true ++ (false ∷ []) → askingOn b a p buffers ≡ left p
+  unfolding askingOn saidMore
+  off-gave p [] zero e = absurd (let z : _≡_ {A = ℕ} 0 1 = cc in omega arith)
+  off-gave p [] (suc n) e = absurd (let z : _≡_ {A = ℕ} 0 1 = cc in omega arith)
+  off-gave p (buffer ∷ rest) n e = go (λ i h. off-gave last rest i h) (reply b a p buffer .more) (more-left b a s k p (length buffer)) n e
+    where
+      size : ℕ
+      size = length buffer / 2
+
+      last : Place
+      last = lastOr p (given b a p buffer)
+
+      go : ((i : ℕ) → saidMore b a last rest ≡ replicate i true ++ (false ∷ []) → askingOn b a last rest ≡ left last) → (m : Bool) → m ≡ ltb size (length (left p))
+          → (i : ℕ) → m ∷ cond m (saidMore b a last rest) [] ≡ replicate i true ++ (false ∷ []) → given b a p buffer ++ cond m (askingOn b a last rest) [] ≡ left p
+      go below false l i h = append-nil (given b a p buffer) ∙ given-first b a s k p buffer ∙ take-all size (left p) (ltb-false size (length (left p)) (sym l))
+      go below true l zero h = absurd (let z : true ≡ false = cc in subst T z tt)
+      go below true l (suc i) h =
+          let z = after-given p buffer in
+          let on : saidMore b a last rest ≡ replicate i true ++ (false ∷ []) = cc in
+          ap (λ ps. given b a p buffer ++ ps) (below i on ∙ z) ∙ ap (λ ps. ps ++ drop size (left p)) (given-first b a s k p buffer) ∙ take-append-drop size (left p)
+
   -- from (0, 0) on
-  from-none : left (pair 0 0) ≡ allOpenings b a
+  pub from-none : remaining b a 0 0 ≡ allOpenings b a
   unfolding remaining
   from-none = after-none (b .device .columns) (b .now) (liveOf b) a
 
@@ -173,3 +195,6 @@ module _ (b : Board) (a : Submission) (s : SoundBoard b) (k : Reachable b a) whe
   pub asking-ends : (buffers : List (List ℕ)) → Roomy buffers → 1 ≤ length buffers → length (allOpenings b a) ≤ length buffers
       → (n : ℕ) × (saidMore b a (pair 0 0) buffers ≡ replicate n true ++ (false ∷ []))
   asking-ends buffers r one l = on-ends (pair 0 0) buffers r one (rw from-none l)
+
+  pub asked-to-end : (buffers : List (List ℕ)) (n : ℕ) → saidMore b a (pair 0 0) buffers ≡ replicate n true ++ (false ∷ []) → askingOn b a (pair 0 0) buffers ≡ allOpenings b a
+  asked-to-end buffers n e = off-gave (pair 0 0) buffers n e ∙ from-none

@@ -15,9 +15,9 @@ use Rattle.tasks.specs.declared.Task.{Task}
 use Rattle.tasks.specs.declared.Submission.{Submission}
 use Rattle.tasks.specs.Tasks.{finish, live}
 use Rattle.columns.specs.Columns.{columns}
-use Rattle.planners.specs.Openings.{Place, openings}
+use Rattle.planners.specs.Openings.{Place, pairNumbers}
 use Rattle.planners.specs.Planners.{release, visited, candidates, releasedEdges, stuffing, horizon}
-use Rattle.planners.proofs.Openings.{Opening, Before}
+use Rattle.planners.proofs.Openings.{Before, listed-opens, opens-listed, openings-ordered}
 use Rattle.planners.proofs.Planners.{Answers, stuffing-answers, stuffing-rejects, horizon-answers, horizon-rejects}
 use Rattle.board.specs.declared.Board.{Board}
 use Rattle.board.specs.declared.Answer.the-variants.{Placed, Rejected, Refused}
@@ -26,14 +26,23 @@ use Rattle.board.specs.Calls.{taken, submitted, clocked, withdrawn, remaining, 
 use Rattle.board.proofs.Kept.{SoundBoard, slotAt, refused-submit-same, refused-clock-same, refused-withdraw-same, submitted-keeps, Clocks, clocked-keeps, Withdraws, withdrawn-moves-none}
 use Rattle.board.proofs.Window.{Reachable, refused-opened}
 use Rattle.board.proofs.Looked.{refused-horizon-same, refused-busy-same}
-use Rattle.board.proofs.Placed.{full-placed, full-rejected}
-use Rattle.board.proofs.Asking.{given, asking, IsOpening, given-first, left-opens, opens-left, left-ordered, none-missed, asking-from-none, full-takes-given}
+use Rattle.board.proofs.Placed.{full-rejected}
+use Rattle.board.proofs.Asking.{given, IsOpening, given-first, left-opens, opens-left, left-ordered, none-missed, full-takes-given}
 use Rattle.events.specs.declared.Event.{Event}
 use Rattle.events.specs.declared.Reading.the-variants.{Got}
 use Rattle.events.specs.declared.Written.the-variants.{NoRoom}
 use Rattle.events.specs.Records.{recordOf, readFrom, written, writtenBuffer}
 use Rattle.events.proofs.RoundTrip.{Fits, Bytes, read-written, written-again}
 use Rattle.events.proofs.Calls.{refused-stays}
+use Prim.Native.Nat.{_+_}
+use mathlib.Core.Bool.{true}
+use mathlib.Core.List.{_∷_}
+use lib.ListN.{getD, replicate}
+use Rattle.lists.specs.Lists.{overFront}
+use Rattle.tasks.specs.Numbers.{lastPlanner}
+use Rattle.promises.proofs.AskingOn.{allOpenings, reply, askingOn, saidMore, Roomy, ordered-once, from-none}
+use Rattle.promises.proofs.AskingOn.{reply-answers, reply-writes, more-true, more-false, asking-gives-all, asking-ends, asked-to-end}
+use Rattle.promises.proofs.Answering.{Allows, allowed, FirstOpening, full-taken, takes-full, rejects-full}
 
 -- DEMAND 1. "Bad input gets the refusal number that document 01 fixes .. a refusal hands the board back as it came and writes nothing to a lent buffer."
 -- (That every call takes any board, task, instant or buffer and ends: no public call has a `requires`, and each is proved to end.)
@@ -93,39 +102,91 @@ demand-2-read-back = read-written
 pub demand-2-written-again : (l : List ℕ) → Bytes l → (v : Event) (size : ℕ) → readFrom l ≡ Got v size → recordOf v ≡ take size l
 demand-2-written-again = written-again
 
--- DEMAND 3, of the openings call on a sound board, for a well-formed task whose deadline can still be reached
+-- DEMAND 3. "For a sound board and a well-formed task whose deadline can still be reached"
 module _ (b : Board) (a : Submission) (s : SoundBoard b) (k : Reachable b a) where
-  -- what a call after the pair p gives is the first of what comes after p, as many as fit
+  -- "the list of openings holds every start from now on, and column within the device, that overlaps no live task and meets the deadline": each of these, and no other
+  pub demand-3-every : (q : Place) → IsOpening b a q → q ∈ allOpenings b a
+  demand-3-every = opens-listed (b .device .columns) (b .now) (liveOf b) a
+
+  pub demand-3-only : (q : Place) → q ∈ allOpenings b a → IsOpening b a q
+  demand-3-only q m = listed-opens (b .device .columns) (b .now) (liveOf b) a m
+
+  -- "each exactly once, by start and then column"
+  pub demand-3-order : Sorted Before (allOpenings b a)
+  demand-3-order = openings-ordered (b .device .columns) (b .now) (liveOf b) a
+
+  pub demand-3-once : (d : Place) (i j : ℕ) → i < j → j < length (allOpenings b a) → getD (allOpenings b a) i d ≡ getD (allOpenings b a) j d → ⊥
+  demand-3-once = ordered-once (allOpenings b a) demand-3-order
+
+  -- a call after the pair p gives the first of what comes after p, as many as fit; what comes after p is every opening after p, in that order
   pub demand-3-given : (p : Place) (buffer : List ℕ) → given b a p buffer ≡ take (length buffer / 2) (remaining b a (p .start) (p .place))
   demand-3-given = given-first b a s k
 
-  -- "The list of openings holds every opening": it starts from now on, lies within the device, overlaps no live task and meets the deadline
-  pub demand-3-every : (p q : Place) → IsOpening b a q → Before p q → q ∈ remaining b a (p .start) (p .place)
-  demand-3-every = opens-left b a s k
+  pub demand-3-every-after : (p q : Place) → IsOpening b a q → Before p q → q ∈ remaining b a (p .start) (p .place)
+  demand-3-every-after = opens-left b a s k
 
-  pub demand-3-only : (p q : Place) → q ∈ remaining b a (p .start) (p .place) → IsOpening b a q × Before p q
-  demand-3-only = left-opens b a s k
+  pub demand-3-only-after : (p q : Place) → q ∈ remaining b a (p .start) (p .place) → IsOpening b a q × Before p q
+  demand-3-only-after = left-opens b a s k
 
-  -- "exactly once, in order"
-  pub demand-3-order : (p : Place) → Sorted Before (remaining b a (p .start) (p .place))
-  demand-3-order = left-ordered b a s k
+  pub demand-3-order-after : (p : Place) → Sorted Before (remaining b a (p .start) (p .place))
+  demand-3-order-after = left-ordered b a s k
+
+  -- after (0, 0), as the first time: all of them
+  pub demand-3-first-time : remaining b a 0 0 ≡ allOpenings b a
+  demand-3-first-time = from-none b a s k
+
+  -- its answer is 0, the number of those given and the board as it was; in the buffer they stand in front, and every other word stays
+  pub demand-3-answer : (p : Place) (buffer : List ℕ)
+      → (reply b a p buffer .number ≡ 0) × (reply b a p buffer .count ≡ length (given b a p buffer)) × (reply b a p buffer .board ≡ b)
+  demand-3-answer = reply-answers b a s k
+
+  pub demand-3-buffer : (p : Place) (buffer : List ℕ) → openedBuffer b a (p .start) (p .place) buffer ≡ overFront (pairNumbers (given b a p buffer)) buffer
+  demand-3-buffer = reply-writes b a s k
+
+  -- it says that a further one remains exactly when an opening comes after the last one given
+  pub demand-3-more : (p : Place) (buffer : List ℕ) → reply b a p buffer .more ≡ true → (q : Place) × IsOpening b a q × Before (lastOr p (given b a p buffer)) q
+  demand-3-more = more-true b a s k
+
+  pub demand-3-no-more : (p : Place) (buffer : List ℕ) → reply b a p buffer .more ≡ false → (q : Place) → IsOpening b a q → Before (lastOr p (given b a p buffer)) q → ⊥
+  demand-3-no-more = more-false b a s k
 
   -- two calls never both miss one
   pub demand-3-none-missed : (p q : Place) (buffer : List ℕ) → IsOpening b a q → Before p q → (q ∈ given b a p buffer) ⊎ Before (lastOr p (given b a p buffer)) q
   demand-3-none-missed = none-missed b a s k
 
-  -- "asking on reaches its end"
-  pub demand-3-asking-on : (n : ℕ) (buffer : List ℕ) → 2 ≤ length buffer → length (openings (b .device .columns) (b .now) (liveOf b) a) ≤ n
-      → asking b a n (pair 0 0) buffer ≡ openings (b .device .columns) (b .now) (liveOf b) a
-  demand-3-asking-on = asking-from-none b a s k
+  -- "asking on from the last one given, with room for one or more, reaches the end of it": as many calls as openings, each with any such buffer, give them all
+  pub demand-3-asking-on : (buffers : List (List ℕ)) → Roomy buffers → length (allOpenings b a) ≤ length buffers → askingOn b a (pair 0 0) buffers ≡ allOpenings b a
+  demand-3-asking-on = asking-gives-all b a s k
 
-  -- "Full takes the first and rejects exactly when there is none"
-  pub demand-3-full : (buffer : List ℕ) → 2 ≤ length buffer → refusedSubmit b 3 a ≡ 0 → submitted b 3 a ≡ taken b a (head? (given b a (pair 0 0) buffer))
-  demand-3-full = full-takes-given b a s k
+  -- and they end: the last call says that none remains, every one before it that one does
+  pub demand-3-end : (buffers : List (List ℕ)) → Roomy buffers → 1 ≤ length buffers → length (allOpenings b a) ≤ length buffers
+      → (n : ℕ) × (saidMore b a (pair 0 0) buffers ≡ replicate n true ++ (false ∷ []))
+  demand-3-end = asking-ends b a s k
 
-pub demand-3-full-first : (b : Board) (a : Submission) {c s f : ℕ} → submitted b 3 a .answer ≡ Placed c s f
-    → (q : Place) → Opening (b .device .columns) (b .now) (liveOf b) a q → (q ≡ pair s c) ⊎ Before (pair s c) q
-demand-3-full-first b a e = full-placed b a e
+  -- so whoever asks on until a call says that none remains has been given them all, with fewer calls too
+  pub demand-3-asked-to-end : (buffers : List (List ℕ)) (n : ℕ) → saidMore b a (pair 0 0) buffers ≡ replicate n true ++ (false ∷ [])
+      → askingOn b a (pair 0 0) buffers ≡ allOpenings b a
+  demand-3-asked-to-end = asked-to-end b a s k
 
-pub demand-3-full-rejects : (b : Board) (a : Submission) → submitted b 3 a .answer ≡ Rejected → (q : Place) → Opening (b .device .columns) (b .now) (liveOf b) a q → ⊥
-demand-3-full-rejects = full-rejected
+  -- "If id and table allow the task" (the id is not 0 and not live, fewer than 64 tasks are live): no planner refuses it
+  pub demand-3-allowed : Allows b a → (n : ℕ) → n ≤ lastPlanner → refusedSubmit b n a ≡ 0
+  demand-3-allowed o n h = allowed b n a h s k o
+
+  -- "the full planner takes the first opening"
+  pub demand-3-full : Allows b a → (p : Place) → FirstOpening b a p → submitted b 3 a .answer ≡ Placed (p .place) (p .start) (p .start + a .e)
+  demand-3-full o = takes-full b a (demand-3-allowed o 3 (omega arith))
+
+  -- answer and board: it takes the first that the openings call gives
+  pub demand-3-full-given : Allows b a → (buffer : List ℕ) → 2 ≤ length buffer → submitted b 3 a ≡ taken b a (head? (given b a (pair 0 0) buffer))
+  demand-3-full-given o buffer h = full-takes-given b a s k buffer h (demand-3-allowed o 3 (omega arith))
+
+  -- "and rejects exactly when there is none"
+  pub demand-3-full-rejects : Allows b a → ((q : Place) → IsOpening b a q → ⊥) → submitted b 3 a .answer ≡ Rejected
+  demand-3-full-rejects o = rejects-full b a (demand-3-allowed o 3 (omega arith))
+
+-- and whatever Full places is the first opening; where it rejects, there is none
+pub demand-3-full-first : (b : Board) (a : Submission) {c s f : ℕ} → submitted b 3 a .answer ≡ Placed c s f → FirstOpening b a (pair s c) × (f ≡ s + a .e)
+demand-3-full-first b a e = full-taken b a e
+
+pub demand-3-full-rejected : (b : Board) (a : Submission) → submitted b 3 a .answer ≡ Rejected → (q : Place) → IsOpening b a q → ⊥
+demand-3-full-rejected = full-rejected

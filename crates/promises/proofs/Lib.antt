@@ -2,6 +2,7 @@ pub mod Proved
 pub mod Unique
 pub mod Session
 pub mod AskingOn
+pub mod Answering
 pub mod Demands
 pub mod Lines
 pub mod Recordings
