@@ -14,11 +14,9 @@ use Rattle.ways.specs.Ways.{pair}
 use Rattle.tasks.specs.declared.Task.{Task}
 use Rattle.tasks.specs.declared.Submission.{Submission}
 use Rattle.tasks.specs.Tasks.{finish, live}
-use Rattle.columns.specs.Columns.{columns}
 use Rattle.planners.specs.Openings.{Place, pairNumbers}
-use Rattle.planners.specs.Planners.{release, visited, candidates, releasedEdges, stuffing, horizon}
+use Rattle.planners.specs.Planners.{free, release}
 use Rattle.planners.proofs.Openings.{Before, listed-opens, opens-listed, openings-ordered}
-use Rattle.planners.proofs.Planners.{Answers, stuffing-answers, stuffing-rejects, horizon-answers, horizon-rejects}
 use Rattle.board.specs.declared.Board.{Board}
 use Rattle.board.specs.declared.Answer.the-variants.{Placed, Rejected, Refused}
 use Rattle.board.specs.Refusals.{liveOf, refusedSubmit, refusedInstant, refusedWithdraw, refusedOpenings, refusedHorizon}
@@ -26,7 +24,7 @@ use Rattle.board.specs.Calls.{taken, submitted, clocked, withdrawn, remaining, 
 use Rattle.board.proofs.Kept.{SoundBoard, slotAt, refused-submit-same, refused-clock-same, refused-withdraw-same, submitted-keeps, Clocks, clocked-keeps, Withdraws, withdrawn-moves-none}
 use Rattle.board.proofs.Window.{Reachable, refused-opened}
 use Rattle.board.proofs.Looked.{refused-horizon-same, refused-busy-same}
-use Rattle.board.proofs.Placed.{full-rejected}
+use Rattle.board.proofs.Placed.{placed-opens, full-rejected}
 use Rattle.board.proofs.Asking.{given, IsOpening, given-first, left-opens, opens-left, left-ordered, none-missed, full-takes-given}
 use Rattle.events.specs.declared.Event.{Event}
 use Rattle.events.specs.declared.Reading.the-variants.{Got}
@@ -40,8 +38,10 @@ use mathlib.Core.List.{_∷_}
 use lib.ListN.{getD, replicate}
 use Rattle.lists.specs.Lists.{overFront}
 use Rattle.tasks.specs.Numbers.{lastPlanner}
+use Rattle.tasks.proofs.Laws.{Holds}
 use Rattle.promises.proofs.AskingOn.{allOpenings, reply, askingOn, saidMore, Roomy, ordered-once, from-none}
 use Rattle.promises.proofs.AskingOn.{reply-answers, reply-writes, more-true, more-false, asking-gives-all, asking-ends, asked-to-end}
+use Rattle.promises.proofs.Published.{AnswersAs, FreeRun, ReleasedRun, VisitsEach, IsFinish, IsRelease, LastFinish, free-out, free-in, release-last, reference-as, horizon-as, stuffing-as}
 use Rattle.promises.proofs.Answering.{Allows, allowed, FirstOpening, full-taken, takes-full, rejects-full}
 
 -- DEMAND 1. "Bad input gets the refusal number that document 01 fixes .. a refusal hands the board back as it came and writes nothing to a lent buffer."
@@ -69,21 +69,33 @@ demand-1-busy = refused-busy-same
 pub demand-1-writer : (v : Event) (buffer : List ℕ) → written v (length buffer) ≡ NoRoom → writtenBuffer v buffer ≡ buffer
 demand-1-writer = refused-stays
 
--- DEMAND 2. "Reference, Horizon and Stuffing answer exactly as published": at the least visited time that has a candidate, with the first there
-pub demand-2-stuffing : (W now : ℕ) (ts : List Task) (a : Submission) {p : Place} → stuffing W now ts a ≡ some p → Answers (candidates W now ts a) (visited W now ts a (map finish ts)) p
-demand-2-stuffing W now ts a e = stuffing-answers W now ts a e
+-- DEMAND 2. "Reference, horizon and stuffing answer exactly as the published definitions of Steiger, Walder and Platzner say, with ties and edges as document 01 settles them":
+-- a task that is not refused is placed at the left edge of the narrowest (of equals the leftmost) run tried at the first visited time that has one (`Chosen`), with finish s + e;
+-- it is rejected exactly when no visited time has one, and there is no third answer (`AnswersAs`). Reference: at now only, the free intervals without a conflict with a waiting task
+pub demand-2-reference : (b : Board) (a : Submission) → refusedSubmit b 0 a ≡ 0 → AnswersAs b 0 a (λ i. i ≡ b .now) (FreeRun b a)
+demand-2-reference = reference-as
 
-pub demand-2-stuffing-rejects : (W now : ℕ) (ts : List Task) (a : Submission) → stuffing W now ts a ≡ none
-    → (i : ℕ) → i ∈ visited W now ts a (map finish ts) → candidates W now ts a i ≡ []
-demand-2-stuffing-rejects W now ts a e = stuffing-rejects W now ts a e
+-- Horizon (Algorithm 1): now, then each release of a column after now and up to d − e; the longest runs of columns released by then
+pub demand-2-horizon : (b : Board) (a : Submission) → refusedSubmit b 1 a ≡ 0 → AnswersAs b 1 a (VisitsEach b a (IsRelease b)) (ReleasedRun b a)
+demand-2-horizon = horizon-as
 
-pub demand-2-horizon : (W now : ℕ) (ts : List Task) (a : Submission) {p : Place} → horizon W now ts a ≡ some p
-    → Answers (releasedEdges W now ts a) (visited W now ts a (map (release now ts) (columns W))) p
-demand-2-horizon W now ts a e = horizon-answers W now ts a e
+-- Stuffing (Algorithm 2): now, then each finish of a live task after now and up to d − e; the free intervals without a conflict with a waiting task
+pub demand-2-stuffing : (b : Board) (a : Submission) → refusedSubmit b 2 a ≡ 0 → AnswersAs b 2 a (VisitsEach b a (IsFinish b)) (FreeRun b a)
+demand-2-stuffing = stuffing-as
 
-pub demand-2-horizon-rejects : (W now : ℕ) (ts : List Task) (a : Submission) → horizon W now ts a ≡ none
-    → (i : ℕ) → i ∈ visited W now ts a (map (release now ts) (columns W)) → releasedEdges W now ts a i ≡ []
-demand-2-horizon-rejects W now ts a e = horizon-rejects W now ts a e
+-- the two tests of a column there: it is free at t exactly if no live task holds it at t, and its release is the later of now and the last finish of any live task on it
+pub demand-2-free : (b : Board) (t c : ℕ) → T (free (liveOf b) t c) → (u : Task) → u ∈ liveOf b → Holds t c u → ⊥
+demand-2-free = free-out
+
+pub demand-2-free-if : (b : Board) (t c : ℕ) → ((u : Task) → u ∈ liveOf b → Holds t c u → ⊥) → T (free (liveOf b) t c)
+demand-2-free-if = free-in
+
+pub demand-2-release : (b : Board) (c : ℕ) → LastFinish b c (release (b .now) (liveOf b) c)
+demand-2-release = release-last
+
+-- whatever any planner places is an opening: it starts from now on, lies within the device, overlaps no live task (Definition 1), and meets the deadline
+pub demand-2-places : (b : Board) (n : ℕ) (a : Submission) {c s f : ℕ} → submitted b n a .answer ≡ Placed c s f → IsOpening b a (pair s c) × (f ≡ s + a .e)
+demand-2-places b n a e = placed-opens b n a e
 
 -- "booking, clock, withdrawal .. follow its rules": a live task keeps its slot, columns and start under each of them
 pub demand-2-booking : (b : Board) (n : ℕ) (a : Submission) (i : ℕ) → i < length (b .tasks) → T (live (slotAt b i)) → slotAt (submitted b n a .board) i ≡ slotAt b i

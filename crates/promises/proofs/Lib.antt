@@ -3,6 +3,7 @@ pub mod Unique
 pub mod Session
 pub mod AskingOn
 pub mod Answering
+pub mod Published
 pub mod Demands
 pub mod Lines
 pub mod Recordings
