@@ -1,5 +1,5 @@
 -- What a submission is answered: not refused where id and table allow it, and then its planner's place or rejection. Full takes the first opening. Assumes nothing.
-use Prim.Native.Nat.{ℕ, zero, suc, _+_, _≤_, _<_}
+use Prim.Native.Nat.{ℕ, _+_, _≤_, _<_}
 use mathlib.Core.Path.{_≡_, refl, sym, ap, _∙_}
 use mathlib.Core.Logic.{_⊎_, inl, inr}
 use mathlib.Core.Bool.{not}
@@ -20,17 +20,15 @@ use Rattle.tasks.specs.Tasks.{live}
 use Rattle.tasks.proofs.Laws.{within-in}
 use Rattle.planners.specs.Openings.{Place, full}
 use Rattle.planners.specs.Planners.{planned}
-use Rattle.planners.proofs.Openings.{Before, earlier, lower, full-takes-one, full-opens, full-first, full-rejects}
+use Rattle.planners.proofs.Openings.{Before, earlier, lower, full-takes-one, full-opens, full-first}
 use Rattle.slots.specs.Slots.{named, known}
 use Rattle.slots.proofs.Soundness.{sound-in}
-use Rattle.refusals.specs.Refusals.{submitTests}
 use Rattle.refusals.proofs.First.{sound-passes, passed-over, none-left}
 use Rattle.board.specs.declared.Board.{Board}
-use Rattle.board.specs.declared.Answer.{Answer}
-use Rattle.board.specs.declared.Answer.the-variants.{Placed, Rejected, Refused}
+use Rattle.board.specs.declared.Answer.the-variants.{Placed, Rejected}
 use Rattle.board.specs.Refusals.{liveOf, soundBoard, refusedSubmit}
 use Rattle.board.specs.Calls.{taken, submitted}
-use Rattle.board.proofs.Kept.{SoundBoard, refused-submit-same}
+use Rattle.board.proofs.Kept.{SoundBoard}
 use Rattle.board.proofs.Window.{Reachable}
 use Rattle.board.proofs.Submit.{accepted-answered}
 use Rattle.board.proofs.Placed.{placed-opens, full-placed}

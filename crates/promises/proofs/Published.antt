@@ -1,8 +1,8 @@
 -- Reference, Horizon and Stuffing as published: the times that each visits, the runs that it tries there, and that a submission is answered exactly so. Assumes nothing.
-use Prim.Native.Nat.{ℕ, zero, suc, _+_, _≤_, _<_}
+use Prim.Native.Nat.{ℕ, _+_, _≤_, _<_}
 use mathlib.Core.Path.{_≡_, refl, sym, ap, _∙_, subst}
 use mathlib.Core.Logic.{_⊎_, inl, inr}
-use mathlib.Core.Bool.{Bool, not, _&&_}
+use mathlib.Core.Bool.{Bool, _&&_}
 use mathlib.Core.Option.{Option, none, some}
 use mathlib.Core.List.{List, [], _∷_, map, List·Memᴰ·head as here, List·Memᴰ·cases-cons as cases, List·Memᴰ·not-nil as nowhere}
 use native.Mathlib.Omega.{arith}
@@ -13,7 +13,6 @@ use Rattle.lists.proofs.Bools.{and-l, and-r, and-i}
 use Rattle.lists.proofs.Members.{keep-in, in-keep, none-pass, pass-none, map-in, in-map, head-none, range-in, in-range, highest-over, highest-from, highest-one}
 use Rattle.lists.proofs.Append.{keep-map}
 use Rattle.lists.proofs.Order.{Sorted, empty, next, Sorted·head, sorted-keep, Earliest, first-some, first-none}
-use Rattle.ways.specs.Ways.{pair}
 use Rattle.tasks.specs.declared.Task.{Task}
 use Rattle.tasks.specs.declared.Submission.{Submission}
 use Rattle.tasks.specs.Tasks.{finish, past, meets, covers, holds, phaseAt, waitingPhase, stamped, booked}
