@@ -1,9 +1,11 @@
 -- The proving set, and the cases that tell near misses apart, hold: the checker computes them from the definitions. Assumes nothing.
-use mathlib.Core.Path.{_≡_, refl}
+use mathlib.Core.Path.{_≡_, refl, sym, subst}
 use mathlib.Core.Bool.{true, false}
 use mathlib.Core.List.{[], _∷_, _++_}
 use Prim.Native.Nat.{_^_}
 use lib.Dec.{T}
+use lib.ListN.{replicate}
+use Rattle.table1.proofs.rows.Reads as rows
 use Rattle.events.specs.declared.Event.the-variants.{NewBoard, Submit, Clock}
 use Rattle.session.specs.Recording.{mostEvents}
 use Rattle.promises.specs.ProvingSet.{headerLine}
@@ -11,7 +13,7 @@ use Rattle.text.specs.Text.{ascii, decimalIn, decimal, lineText, rowText}
 use Rattle.answer_words.specs.AnswerWords.{answerWords}
 use Rattle.worded.specs.Worded.{idText, wordedText}
 use Rattle.listing.specs.Listing.{headerText, listingText, stopText, endText, planText}
-use Rattle.promises.specs.Cases.{submit, clock}
+use Rattle.promises.specs.Cases.{submit, clock, slot}
 use Rattle.lists.specs.Lists.{keep, some?, all?, pairwise?, head?, orElse, lastOr, indexOf, putFirst, insertBy, sortBy, each, firstOf, range, highest, addTo, rising}
 use Rattle.ways.specs.Ways.{isOpen, pairsIn, openingsIn, after, openingsAfter, askedOn}
 use Rattle.tasks.specs.Tasks.{meets, covers, holds, phaseAt, stamped, zeros, booked}
@@ -25,9 +27,10 @@ use Rattle.board.specs.Calls.{orRefused, freshBoard, created, withTask, taken, 
 use Rattle.board.specs.Refusals.{refusal, refusedCreate, refusedSubmit, refusedInstant, refusedWithdraw, refusedOpenings, refusedHorizon}
 use Rattle.events.specs.Records.{bytesOf, numberOf, kindOf, bodyOf, recordOf, wholeOr15, readFrom, written, writtenBuffer, toldRead, toldWritten, idOf}
 use Rattle.session.specs.Recording.{firstState, lineOf, stopLine, outcome, storyFrom, story}
-use Rattle.promises.specs.Cases.{numbers, afterEvent, play, same, sameAll, passes, at, only}
+use Rattle.promises.specs.Cases.{numbers, recordNumbers, afterEvent, play, same, sameAll, passes, at, only}
 use Rattle.promises.specs.Edges.{refusedList, edgeSet, filled}
-use Rattle.promises.specs.ProvingSet.{played, tableWith, withClocks, firstSix, seven, listing, provingSet, twoRuns, waitingAhead, tellingSet, listingEvents, listingPrinted, recording}
+use Rattle.promises.specs.ProvingSet.{played, withDeadline, tableWith, withClocks, firstSix, seven, listing, provingSetOver, provingSet}
+use Rattle.promises.specs.ProvingSet.{twoRuns, waitingAhead, tellingSet, listingEvents, listingPrinted, recording}
 
 -- every definition of the book, opened so that it computes, group by group
 open-lists : Unit {0}
@@ -59,11 +62,11 @@ unfolding decimalIn decimal lineText rowText answerWords idText wordedText heade
 open-texts = tt
 
 open-cases : Unit {0}
-unfolding numbers afterEvent play same sameAll passes at only
+unfolding numbers recordNumbers afterEvent play same sameAll passes at only
 open-cases = tt
 
 open-sets : Unit {0}
-unfolding refusedList edgeSet filled played tableWith withClocks firstSix seven listing provingSet twoRuns waitingAhead tellingSet listingEvents listingPrinted recording
+unfolding refusedList edgeSet filled played withDeadline tableWith withClocks firstSix seven listing provingSetOver provingSet twoRuns waitingAhead tellingSet listingEvents listingPrinted recording
 open-sets = tt
 
 open-book : Unit {0}
@@ -75,6 +78,10 @@ pub proving-set : T (all? passes provingSet)
 unfolding open-book
 proving-set = tt
 
+-- the same of the constant in the code: whatever `table1::rows` may return by its promise, the set over it holds
+pub proving-rows : (κs : _) (a : _) (r : _) (s : _) → rows.Post κs a r s → T (all? passes (provingSetOver r))
+proving-rows κs a r s e = subst (λ t. T (all? passes (provingSetOver t))) (sym e) (unfold provingSet in proving-set)
+
 -- what the nine cases alone do not tell apart
 pub telling-set : T (all? passes tellingSet)
 unfolding open-book
@@ -85,8 +92,13 @@ pub edge-set : T (all? passes edgeSet)
 unfolding open-book
 edge-set = tt
 
--- case 11: with 64 live the next gives 9 even where no place exists, but 8 first; after they end a slot is taken
-pub filled-up : play (submit 0 65 1 1 1 9 ∷ submit 3 65 1 1 1 0 ∷ clock 9 ∷ submit 0 65 64 1 1 10 ∷ []) filled ≡ only 9 ∷ only 8 ∷ only 0 ∷ at 1 9 10 ∷ []
+-- case 11. "64 live: the next gives 9 even where no place exists": with a place (Full, at 3 in column 5), without one, and 8 first;
+-- "after one ends its slot is taken": the task of slot 4 alone has ended, the next takes just that slot, those beside it stay, and 64 are live again
+pub filled-up : play (submit 3 65 1 1 1 9 ∷ submit 3 65 1 1 1 3 ∷ submit 3 65 1 1 1 0 ∷ slot 4 ∷ clock 3 ∷ slot 4
+    ∷ submit 0 65 1 1 6 9 ∷ slot 3 ∷ slot 4 ∷ slot 5 ∷ submit 3 66 1 1 1 9 ∷ []) filled
+    ≡ only 9 ∷ only 9 ∷ only 8 ∷ (5 ∷ 1 ∷ 1 ∷ 3 ∷ 9 ∷ 5 ∷ 0 ∷ 2 ∷ []) ∷ only 0 ∷ replicate 8 0
+    ∷ at 5 3 9 ∷ (4 ∷ 1 ∷ 1 ∷ 9 ∷ 9 ∷ 4 ∷ 0 ∷ 2 ∷ [])
+    ∷ (65 ∷ 1 ∷ 1 ∷ 6 ∷ 9 ∷ 5 ∷ 3 ∷ 2 ∷ []) ∷ (6 ∷ 1 ∷ 1 ∷ 9 ∷ 9 ∷ 6 ∷ 0 ∷ 2 ∷ []) ∷ only 9 ∷ []
 unfolding open-book
 filled-up = refl
 

@@ -1,6 +1,8 @@
 -- The edges of every number range, and each refusal beside those that could win over it. Assumes nothing.
 use Prim.Native.Nat.{ℕ}
+use mathlib.Core.Bool.{cond}
 use mathlib.Core.List.{List, [], _∷_, map}
+use lib.Dec.{eqb}
 use lib.ListN.{replicate}
 use Rattle.lists.specs.Lists.{range}
 use Rattle.tasks.specs.declared.Phase.the-variants.{Running}
@@ -59,9 +61,9 @@ edgeSet =
     ∷ only 0 ∷ (11 ∷ 0 ∷ []) ∷ (0 ∷ 0 ∷ []) ∷ (12 ∷ 0 ∷ []) ∷ [])
     ∷ []
 
--- 64 columns and 64 live tasks, the task in column c with id c
+-- 64 columns and 64 live tasks, the task in column c with id c and in slot c − 1; that of column 5 ends at 3, the others at 9
 unfoldable pub filled : Board
 filled = record { tasks = map live (range 1 64); now = 0; device = device 64 1 }
   where
     live : ℕ → Task
-    live c = record { id = c; e = 9; d = 9; start = 0; w = 1; h = 1; column = c; phase = Running }
+    live c = record { id = c; e = cond (eqb c 5) 3 9; d = 9; start = 0; w = 1; h = 1; column = c; phase = Running }
