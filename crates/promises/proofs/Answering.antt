@@ -94,6 +94,15 @@ module _ (b : Board) (a : Submission) where
             let m = o .first q (full-opens (b .device .columns) (b .now) (liveOf b) a q e) in
             unfold taken in answer-of (some p) (e ∙ ap some (both q l m))
 
+    -- where there is an opening there is a first one, and it is placed there
+    pub full-places : (q : Place) → IsOpening b a q → (p : Place) × FirstOpening b a p × (submitted b 3 a .answer ≡ Placed (p .place) (p .start) (p .start + a .e))
+    unfolding taken
+    full-places q o =
+        let f = full-takes-one (b .device .columns) (b .now) (liveOf b) a q o in
+        let p = f .0 in
+        let opens = full-opens (b .device .columns) (b .now) (liveOf b) a p (f .1) in
+        (p, record { opens = opens; first = λ x y. full-first (b .device .columns) (b .now) (liveOf b) a p x (f .1) y }, answer-of (some p) (f .1))
+
     -- AND REJECTS where there is none
     pub rejects-full : ((p : Place) → IsOpening b a p → ⊥) → submitted b 3 a .answer ≡ Rejected
     rejects-full g = go (full (b .device .columns) (b .now) (liveOf b) a) refl

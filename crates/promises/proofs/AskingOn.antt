@@ -32,15 +32,17 @@ module _ (b : Board) (a : Submission) where
   abbrev pub reply : Place → List ℕ → Opened
   reply p buffer = opened b a (p .start) (p .place) (length buffer)
 
-  -- ASKING ON: a call with each buffer in turn, after the last pair that the call before gave, for as long as the answer says that a further one remains
-  unfoldable pub askingOn : Place → List (List ℕ) → List Place
-  askingOn p [] = []
-  askingOn p (buffer ∷ rest) = given b a p buffer ++ cond (reply p buffer .more) (askingOn (lastOr p (given b a p buffer)) rest) []
+-- ASKING ON: a call with each buffer in turn, on the board that the call before handed back and after the last pair that it gave, for as long as it said that a further one remains
+unfoldable pub askingOn : Board → Submission → Place → List (List ℕ) → List Place
+askingOn b a p [] = []
+askingOn b a p (buffer ∷ rest) =
+    given b a p buffer ++ cond (reply b a p buffer .more) (askingOn (reply b a p buffer .board) a (lastOr p (given b a p buffer)) rest) []
 
-  -- what each of these calls says: whether a further one remains
-  unfoldable pub saidMore : Place → List (List ℕ) → List Bool
-  saidMore p [] = []
-  saidMore p (buffer ∷ rest) = reply p buffer .more ∷ cond (reply p buffer .more) (saidMore (lastOr p (given b a p buffer)) rest) []
+-- what each of these calls says: whether a further one remains
+unfoldable pub saidMore : Board → Submission → Place → List (List ℕ) → List Bool
+saidMore b a p [] = []
+saidMore b a p (buffer ∷ rest) =
+    reply b a p buffer .more ∷ cond (reply b a p buffer .more) (saidMore (reply b a p buffer .board) a (lastOr p (given b a p buffer)) rest) []
 
 -- every buffer has room for one opening or more
 abbrev pub Roomy : List (List ℕ) → Type 0
@@ -72,6 +74,9 @@ module _ (b : Board) (a : Submission) (s : SoundBoard b) (k : Reachable b a) whe
       → (reply b a p buffer .number ≡ 0) × (reply b a p buffer .count ≡ length (given b a p buffer)) × (reply b a p buffer .board ≡ b)
   unfolding opened orRefused
   reply-answers p buffer = (rw (not-refused b a s k), rw (not-refused b a s k) (ap length (sym (given-first b a s k p buffer))), rw (not-refused b a s k))
+
+  same-board : (p : Place) (buffer : List ℕ) → reply b a p buffer .board ≡ b
+  same-board p buffer = reply-answers p buffer .2
 
   -- THE BUFFER: the pairs given at its front, and every other word as it was
   pub reply-writes : (p : Place) (buffer : List ℕ) → openedBuffer b a (p .start) (p .place) buffer ≡ overFront (pairNumbers (given b a p buffer)) buffer
@@ -118,7 +123,8 @@ module _ (b : Board) (a : Submission) (s : SoundBoard b) (k : Reachable b a) whe
       none-of [] l = refl
       none-of (q ∷ ps) l = absurd (omega arith)
   on-gives p (buffer ∷ rest) r l =
-      ap (λ m. given b a p buffer ++ cond m (askingOn b a last rest) []) (more-left b a s k p (length buffer))
+      ap (λ c. given b a p buffer ++ cond (reply b a p buffer .more) (askingOn c a last rest) []) (same-board p buffer)
+      ∙ ap (λ m. given b a p buffer ++ cond m (askingOn b a last rest) []) (more-left b a s k p (length buffer))
       ∙ go (λ h. on-gives last rest (λ w m. r w (there m)) h) (ltb n (length (left p))) refl
     where
       n : ℕ
@@ -140,7 +146,9 @@ module _ (b : Board) (a : Submission) (s : SoundBoard b) (k : Reachable b a) whe
       → (n : ℕ) × (saidMore b a p buffers ≡ replicate n true ++ (false ∷ []))
   unfolding saidMore
   on-ends p [] r one l = absurd (omega arith)
-  on-ends p (buffer ∷ rest) r one l = go (λ h i. on-ends last rest (λ w m. r w (there m)) h i) (reply b a p buffer .more) (more-left b a s k p (length buffer))
+  on-ends p (buffer ∷ rest) r one l =
+      subst (λ c. Ends (reply b a p buffer .more ∷ cond (reply b a p buffer .more) (saidMore c a last rest) [])) (sym (same-board p buffer))
+      (go (λ h i. on-ends last rest (λ w m. r w (there m)) h i) (reply b a p buffer .more) (more-left b a s k p (length buffer)))
     where
       n : ℕ
       n = length buffer / 2
@@ -166,7 +174,10 @@ module _ (b : Board) (a : Submission) (s : SoundBoard b) (k : Reachable b a) whe
   unfolding askingOn saidMore
   off-gave p [] zero e = absurd (let z : _≡_ {A = ℕ} 0 1 = cc in omega arith)
   off-gave p [] (suc n) e = absurd (let z : _≡_ {A = ℕ} 0 1 = cc in omega arith)
-  off-gave p (buffer ∷ rest) n e = go (λ i h. off-gave last rest i h) (reply b a p buffer .more) (more-left b a s k p (length buffer)) n e
+  off-gave p (buffer ∷ rest) n e =
+      ap (λ c. given b a p buffer ++ cond (reply b a p buffer .more) (askingOn c a last rest) []) (same-board p buffer)
+      ∙ go (λ i h. off-gave last rest i h) (reply b a p buffer .more) (more-left b a s k p (length buffer)) n
+      (ap (λ c. reply b a p buffer .more ∷ cond (reply b a p buffer .more) (saidMore c a last rest) []) (sym (same-board p buffer)) ∙ e)
     where
       size : ℕ
       size = length buffer / 2

@@ -42,7 +42,7 @@ use Rattle.tasks.proofs.Laws.{Holds}
 use Rattle.promises.proofs.AskingOn.{allOpenings, reply, askingOn, saidMore, Roomy, ordered-once, from-none}
 use Rattle.promises.proofs.AskingOn.{reply-answers, reply-writes, more-true, more-false, asking-gives-all, asking-ends, asked-to-end}
 use Rattle.promises.proofs.Published.{AnswersAs, FreeRun, ReleasedRun, VisitsEach, IsFinish, IsRelease, LastFinish, free-out, free-in, release-last, reference-as, horizon-as, stuffing-as}
-use Rattle.promises.proofs.Answering.{Allows, allowed, FirstOpening, full-taken, takes-full, rejects-full}
+use Rattle.promises.proofs.Answering.{Allows, allowed, FirstOpening, full-taken, takes-full, full-places, rejects-full}
 
 -- DEMAND 1. "Bad input gets the refusal number that document 01 fixes .. a refusal hands the board back as it came and writes nothing to a lent buffer."
 -- (That every call takes any board, task, instant or buffer and ends: no public call has a `requires`, and each is proved to end.)
@@ -166,7 +166,8 @@ module _ (b : Board) (a : Submission) (s : SoundBoard b) (k : Reachable b a) whe
   pub demand-3-none-missed : (p q : Place) (buffer : List ℕ) → IsOpening b a q → Before p q → (q ∈ given b a p buffer) ⊎ Before (lastOr p (given b a p buffer)) q
   demand-3-none-missed = none-missed b a s k
 
-  -- "asking on from the last one given, with room for one or more, reaches the end of it": as many calls as openings, each with any such buffer, give them all
+  -- "On an unchanged board, asking on from the last one given, with room for one or more, reaches the end of it":
+  -- as many calls as openings, each on the board that the one before handed back and with any such buffer, give them all
   pub demand-3-asking-on : (buffers : List (List ℕ)) → Roomy buffers → length (allOpenings b a) ≤ length buffers → askingOn b a (pair 0 0) buffers ≡ allOpenings b a
   demand-3-asking-on = asking-gives-all b a s k
 
@@ -187,6 +188,10 @@ module _ (b : Board) (a : Submission) (s : SoundBoard b) (k : Reachable b a) whe
   -- "the full planner takes the first opening"
   pub demand-3-full : Allows b a → (p : Place) → FirstOpening b a p → submitted b 3 a .answer ≡ Placed (p .place) (p .start) (p .start + a .e)
   demand-3-full o = takes-full b a (demand-3-allowed o 3 (omega arith))
+
+  pub demand-3-full-places : Allows b a → (q : Place) → IsOpening b a q
+      → (p : Place) × FirstOpening b a p × (submitted b 3 a .answer ≡ Placed (p .place) (p .start) (p .start + a .e))
+  demand-3-full-places o = full-places b a (demand-3-allowed o 3 (omega arith))
 
   -- answer and board: it takes the first that the openings call gives
   pub demand-3-full-given : Allows b a → (buffer : List ℕ) → 2 ≤ length buffer → submitted b 3 a ≡ taken b a (head? (given b a (pair 0 0) buffer))
