@@ -39,9 +39,11 @@ use lib.ListN.{getD, replicate}
 use Rattle.lists.specs.Lists.{overFront}
 use Rattle.tasks.specs.Numbers.{lastPlanner}
 use Rattle.tasks.proofs.Laws.{Holds}
+use Rattle.columns.specs.Columns.{Run}
 use Rattle.promises.proofs.AskingOn.{allOpenings, reply, askingOn, saidMore, Roomy, ordered-once, from-none}
 use Rattle.promises.proofs.AskingOn.{reply-answers, reply-writes, more-true, more-false, asking-gives-all, asking-ends, asked-to-end}
-use Rattle.promises.proofs.Published.{AnswersAs, FreeRun, ReleasedRun, VisitsEach, IsFinish, IsRelease, LastFinish, free-out, free-in, release-last, reference-as, horizon-as, stuffing-as}
+use Rattle.promises.proofs.Published.{AnswersAs, FreeRun, ReleasedRun, VisitsEach, IsFinish, IsRelease, LastFinish, reference-as, horizon-as, stuffing-as}
+use Rattle.promises.proofs.Published.{free-out, free-in, release-last, free-run-opens, released-run-opens}
 use Rattle.promises.proofs.Answering.{Allows, allowed, FirstOpening, full-taken, takes-full, full-places, rejects-full}
 
 -- DEMAND 1. "Bad input gets the refusal number that document 01 fixes .. a refusal hands the board back as it came and writes nothing to a lent buffer."
@@ -92,6 +94,13 @@ demand-2-free-if = free-in
 
 pub demand-2-release : (b : Board) (c : ℕ) → LastFinish b c (release (b .now) (liveOf b) c)
 demand-2-release = release-last
+
+-- a run that is tried in the window is an opening: at the left edge of a free interval, to meet no waiting task is to meet no live task
+pub demand-2-free-run : (b : Board) (a : Submission) (t : ℕ) (r : Run) → b .now ≤ t → t + a .e ≤ a .d → FreeRun b a t r → IsOpening b a (pair t (r .left))
+demand-2-free-run = free-run-opens
+
+pub demand-2-released-run : (b : Board) (a : Submission) (t : ℕ) (r : Run) → b .now ≤ t → t + a .e ≤ a .d → ReleasedRun b a t r → IsOpening b a (pair t (r .left))
+demand-2-released-run = released-run-opens
 
 -- whatever any planner places is an opening: it starts from now on, lies within the device, overlaps no live task (Definition 1), and meets the deadline
 pub demand-2-places : (b : Board) (n : ℕ) (a : Submission) {c s f : ℕ} → submitted b n a .answer ≡ Placed c s f → IsOpening b a (pair s c) × (f ≡ s + a .e)

@@ -13,6 +13,7 @@ use Rattle.lists.proofs.Bools.{and-l, and-r, and-i}
 use Rattle.lists.proofs.Members.{keep-in, in-keep, none-pass, pass-none, map-in, in-map, head-none, range-in, in-range, highest-over, highest-from, highest-one}
 use Rattle.lists.proofs.Append.{keep-map}
 use Rattle.lists.proofs.Order.{Sorted, empty, next, Sorted·head, sorted-keep, Earliest, first-some, first-none}
+use Rattle.ways.specs.Ways.{pair}
 use Rattle.tasks.specs.declared.Task.{Task}
 use Rattle.tasks.specs.declared.Submission.{Submission}
 use Rattle.tasks.specs.Tasks.{finish, past, meets, covers, holds, phaseAt, waitingPhase, stamped, booked}
@@ -22,12 +23,13 @@ use Rattle.columns.proofs.Runs.{Longest, runs-longest, longest-runs}
 use Rattle.columns.proofs.BestFit.{Better, fit-in, in-fit, better-out, best-sorted}
 use Rattle.planners.specs.Openings.{Place}
 use Rattle.planners.specs.Planners.{free, release, leftEdge, visited, clearOfWaiting, candidates, releasedEdges, reference, horizon, stuffing, planned}
-use Rattle.planners.proofs.Planners.{visited-in, now-visited, in-visited, visited-rising}
+use Rattle.planners.proofs.Planners.{visited-in, now-visited, in-visited, visited-rising, candidate-opens, released-opens}
 use Rattle.board.specs.declared.Board.{Board}
 use Rattle.board.specs.declared.Answer.the-variants.{Placed, Rejected, Refused}
 use Rattle.board.specs.Refusals.{liveOf, refusedSubmit}
 use Rattle.board.specs.Calls.{taken, submitted}
 use Rattle.board.proofs.Submit.{accepted-answered}
+use Rattle.board.proofs.Asking.{IsOpening}
 
 -- "the narrowest run .. the leftmost of equals": r goes before q
 abbrev pub Narrower : Run → Run → Type 0
@@ -52,6 +54,8 @@ pub record AnswersAs (b : Board) (n : ℕ) (a : Submission) (Visits : ℕ → Ty
   pub places : (c s : ℕ) → Chosen Visits Tries s c → submitted b n a .answer ≡ Placed c s (s + a .e)
   pub rejected : submitted b n a .answer ≡ Rejected → (i : ℕ) → Visits i → (q : Run) → Tries i q → ⊥
   pub rejects : ((i : ℕ) → Visits i → (q : Run) → Tries i q → ⊥) → submitted b n a .answer ≡ Rejected
+  -- so where a visited time has a run to try, the task is placed; it is never refused
+  pub takes : (i : ℕ) → Visits i → (q : Run) → Tries i q → (c : ℕ) × (s : ℕ) × (submitted b n a .answer ≡ Placed c s (s + a .e))
   pub not-refused : (k : ℕ) → submitted b n a .answer ≡ Refused k → ⊥
 
 module _ (b : Board) (a : Submission) where
@@ -208,6 +212,7 @@ module _ (Visits : ℕ → Type 0) (Tries : ℕ → Run → Type 0) (tried : ℕ
             places = λ c s h. absurd (none-chosen e s (h .visited) (h .run) (h .tried));
             rejected = λ h. none-chosen e;
             rejects = λ h. z;
+            takes = λ i v q m. absurd (none-chosen e i v q m);
             not-refused = λ k h. let y : _≡_ {A = ℕ} 0 1 = cc in omega arith;
           }
       by (some p) e =
@@ -222,6 +227,7 @@ module _ (Visits : ℕ → Type 0) (Tries : ℕ → Run → Type 0) (tried : ℕ
             places = λ c s h. let y = same-choice Visits Tries x h in z ∙ ap (λ i. Placed i (p .start) (p .start + a .e)) (y .1) ∙ ap (λ i. Placed c i (i + a .e)) (y .0);
             rejected = λ h. absurd (let y : _≡_ {A = ℕ} 0 1 = cc in omega arith);
             rejects = λ h. absurd (h (p .start) (x .visited) (x .run) (x .tried));
+            takes = λ i v q m. (p .place, p .start, z);
             not-refused = λ k h. let y : _≡_ {A = ℕ} 0 1 = cc in omega arith;
           }
 
@@ -354,3 +360,17 @@ module _ (b : Board) (a : Submission) where
 
       back : (i : ℕ) → IsRelease b i → i ∈ releases
       back i (c, l, h, z) = subst (λ j. j ∈ releases) z (in-map (release (b .now) ts) (in-range 1 W c l (omega arith)))
+
+  -- A RUN THAT IS TRIED IS AN OPENING, from now on and up to d − e: at the left edge of a free interval, to meet no waiting task is to meet no live task
+  pub free-run-opens : (t : ℕ) (r : Run) → b .now ≤ t → t + a .e ≤ a .d → FreeRun b a t r → IsOpening b a (pair t (r .left))
+  unfolding candidates
+  free-run-opens t r l h o =
+      let fits = in-fit (a .w) (runs (free ts t) (columns W)) (longest-runs (free ts t) 1 W r (o .longest)) (o .wide) in
+      candidate-opens W (b .now) ts a t l h (in-keep (clearOfWaiting W (b .now) ts a t) (in-map (leftEdge t) fits) (clear-in t r (o .clear)))
+
+  -- and so is one of released columns
+  pub released-run-opens : (t : ℕ) (r : Run) → b .now ≤ t → t + a .e ≤ a .d → ReleasedRun b a t r → IsOpening b a (pair t (r .left))
+  unfolding releasedEdges
+  released-run-opens t r l h o =
+      let released : ℕ → Bool = λ c. leb (release (b .now) ts c) t in
+      released-opens W (b .now) ts a t l h (in-map (leftEdge t) (in-fit (a .w) (runs released (columns W)) (longest-runs released 1 W r (o .longest)) (o .wide)))
