@@ -4,7 +4,6 @@ use mathlib.Core.Bool.{true, false}
 use mathlib.Core.List.{[], _∷_, _++_}
 use Prim.Native.Nat.{_^_}
 use lib.Dec.{T}
-use lib.ListN.{replicate}
 use Rattle.table1.proofs.rows.Reads as rows
 use Rattle.events.specs.declared.Event.the-variants.{NewBoard, Submit, Clock}
 use Rattle.session.specs.Recording.{mostEvents}
@@ -13,7 +12,6 @@ use Rattle.text.specs.Text.{ascii, decimalIn, decimal, lineText, rowText}
 use Rattle.answer_words.specs.AnswerWords.{answerWords}
 use Rattle.worded.specs.Worded.{idText, wordedText}
 use Rattle.listing.specs.Listing.{headerText, listingText, stopText, endText, planText}
-use Rattle.promises.specs.Cases.{submit, clock, slot}
 use Rattle.lists.specs.Lists.{keep, some?, all?, pairwise?, head?, orElse, lastOr, indexOf, putFirst, insertBy, sortBy, each, firstOf, range, highest, addTo, rising}
 use Rattle.ways.specs.Ways.{isOpen, pairsIn, openingsIn, after, openingsAfter, askedOn}
 use Rattle.tasks.specs.Tasks.{meets, covers, holds, phaseAt, stamped, zeros, booked}
@@ -28,7 +26,7 @@ use Rattle.board.specs.Refusals.{refusal, refusedCreate, refusedSubmit, refused
 use Rattle.events.specs.Records.{bytesOf, numberOf, kindOf, bodyOf, recordOf, wholeOr15, readFrom, written, writtenBuffer, toldRead, toldWritten, idOf}
 use Rattle.session.specs.Recording.{firstState, lineOf, stopLine, outcome, storyFrom, story}
 use Rattle.promises.specs.Cases.{numbers, recordNumbers, afterEvent, play, same, sameAll, passes, at, only}
-use Rattle.promises.specs.Edges.{refusedList, edgeSet, filled}
+use Rattle.promises.specs.Edges.{refusedList, endOf, filledUp, edgeSet}
 use Rattle.promises.specs.ProvingSet.{played, withDeadline, tableWith, withClocks, firstSix, seven, listing, provingSetOver, provingSet}
 use Rattle.promises.specs.ProvingSet.{twoRuns, waitingAhead, tellingSet, listingEvents, listingPrinted, recording}
 
@@ -66,11 +64,15 @@ unfolding numbers recordNumbers afterEvent play same sameAll passes at only
 open-cases = tt
 
 open-sets : Unit {0}
-unfolding refusedList edgeSet filled played withDeadline tableWith withClocks firstSix seven listing provingSetOver provingSet twoRuns waitingAhead tellingSet listingEvents listingPrinted recording
+unfolding refusedList endOf filledUp edgeSet played withDeadline tableWith withClocks firstSix seven listing provingSetOver provingSet twoRuns waitingAhead tellingSet
 open-sets = tt
 
+open-listing : Unit {0}
+unfolding listingEvents listingPrinted recording
+open-listing = tt
+
 open-book : Unit {0}
-unfolding open-lists open-planners open-lookups open-board open-refusals open-records open-cases open-sets open-texts
+unfolding open-lists open-planners open-lookups open-board open-refusals open-records open-cases open-sets open-listing open-texts
 open-book = tt
 
 -- CASES 1 TO 9 OF DOCUMENT 01
@@ -87,20 +89,10 @@ pub telling-set : T (all? passes tellingSet)
 unfolding open-book
 telling-set = tt
 
--- the edges of the number ranges, and the order of the refusals
+-- the edges of the number ranges, the order of the refusals, and cases 10 to 12 of document 01
 pub edge-set : T (all? passes edgeSet)
 unfolding open-book
 edge-set = tt
-
--- case 11. "64 live: the next gives 9 even where no place exists": with a place (Full, at 3 in column 5), without one, and 8 first;
--- "after one ends its slot is taken": the task of slot 4 alone has ended, the next takes just that slot, those beside it stay, and 64 are live again
-pub filled-up : play (submit 3 65 1 1 1 9 ∷ submit 3 65 1 1 1 3 ∷ submit 3 65 1 1 1 0 ∷ slot 4 ∷ clock 3 ∷ slot 4
-    ∷ submit 0 65 1 1 6 9 ∷ slot 3 ∷ slot 4 ∷ slot 5 ∷ submit 3 66 1 1 1 9 ∷ []) filled
-    ≡ only 9 ∷ only 9 ∷ only 8 ∷ (5 ∷ 1 ∷ 1 ∷ 3 ∷ 9 ∷ 5 ∷ 0 ∷ 2 ∷ []) ∷ only 0 ∷ replicate 8 0
-    ∷ at 5 3 9 ∷ (4 ∷ 1 ∷ 1 ∷ 9 ∷ 9 ∷ 4 ∷ 0 ∷ 2 ∷ [])
-    ∷ (65 ∷ 1 ∷ 1 ∷ 6 ∷ 9 ∷ 5 ∷ 3 ∷ 2 ∷ []) ∷ (6 ∷ 1 ∷ 1 ∷ 9 ∷ 9 ∷ 6 ∷ 0 ∷ 2 ∷ []) ∷ only 9 ∷ []
-unfolding open-book
-filled-up = refl
 
 -- THE LISTING OF DOCUMENT 01, from the bytes of its records to the bytes that `plan` prints
 pub listing-printed : planText false (recording listingEvents) ≡ record { out = listingPrinted; err = [] }
