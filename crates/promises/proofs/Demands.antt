@@ -1,22 +1,25 @@
 -- THE THREE DEMANDS, theorem by theorem. Each call's promise is one equation to the book (docs/PROMISES.md): what is said here of the book is said of the calls. Assumes nothing.
-use Prim.Native.Nat.{ℕ, _/_, _≤_, _<_}
-use mathlib.Core.Path.{_≡_}
+use Prim.Native.Nat.{ℕ, _/_, _≤_, _<_, _+_}
+use mathlib.Core.Path.{_≡_, refl}
 use mathlib.Core.Logic.{_⊎_}
-use mathlib.Core.Bool.{false}
-use mathlib.Core.Option.{none, some}
-use mathlib.Core.List.{List, [], _++_, map}
-use lib.ListN.{length, take}
-use Rattle.lists.specs.Lists.{_∈_, head?, lastOr}
+use mathlib.Core.Bool.{false, true}
+use mathlib.Core.List.{List, [], _++_, _∷_}
+use native.Mathlib.Omega.{arith}
+use lib.ListN.{length, take, drop, getD, replicate}
+use lib.Dec.{T}
+use Rattle.lists.specs.Lists.{_∈_, head?, lastOr, pairwise?, all?, overFront}
 use Rattle.lists.proofs.Order.{Sorted}
 use Rattle.ways.specs.Ways.{pair}
 use Rattle.tasks.specs.declared.Task.{Task}
 use Rattle.tasks.specs.declared.Submission.{Submission}
-use Rattle.tasks.specs.Tasks.{finish}
-use Rattle.columns.specs.Columns.{columns}
-use Rattle.planners.specs.Openings.{Place, openings}
-use Rattle.planners.specs.Planners.{release, visited, candidates, releasedEdges, stuffing, horizon}
-use Rattle.planners.proofs.Openings.{Opening, Before}
-use Rattle.planners.proofs.Planners.{Answers, stuffing-answers, stuffing-rejects, horizon-answers, horizon-rejects}
+use Rattle.tasks.specs.Tasks.{finish, freeSlot, stamped, stampedAll}
+use Rattle.tasks.specs.Numbers.{device, lastPlanner}
+use Rattle.tasks.proofs.Laws.{Holds}
+use Rattle.columns.specs.Columns.{Run}
+use Rattle.planners.specs.Openings.{Place, pairNumbers}
+use Rattle.planners.specs.Planners.{release, free}
+use Rattle.planners.proofs.Openings.{Before, listed-opens, opens-listed, openings-ordered}
+use Rattle.slots.proofs.Soundness.{sound-out, sound-in}
 use Rattle.board.specs.declared.Board.{Board}
 use Rattle.board.specs.declared.Clocked.{Clocked}
 use Rattle.board.specs.declared.Withdrawn.{Withdrawn}
@@ -25,28 +28,32 @@ use Rattle.board.specs.declared.Listed.{Listed}
 use Rattle.board.specs.declared.Counted.{Counted}
 use Rattle.board.specs.declared.Created.{Created}
 use Rattle.board.specs.declared.Answer.the-variants.{Placed, Rejected, Refused}
-use Rattle.board.specs.Refusals.{liveOf, refusedSubmit}
-use Rattle.board.specs.Refusals.{refusedCreate, refusedInstant, refusedWithdraw, refusedOpenings, refusedHorizon}
-use Rattle.board.specs.Calls.{taken, submitted, clocked, withdrawn, remaining, opened, openedBuffer, listed, listedBuffer, counted}
-use Rattle.board.specs.Calls.{freshBoard, created}
+use Rattle.board.specs.Refusals.{liveOf, refusedSubmit, refusedCreate, refusedInstant, refusedWithdraw, refusedOpenings, refusedHorizon, soundBoard}
+use Rattle.board.specs.Calls.{taken, submitted, clocked, withdrawn, remaining, opened, openedBuffer, listed, listedBuffer, counted, freshBoard, created}
 use Rattle.board.proofs.Kept.{SoundBoard}
 use Rattle.board.proofs.Window.{Reachable}
-use Rattle.board.proofs.Placed.{full-placed, full-rejected}
-use Rattle.board.proofs.Asking.{given, asking, IsOpening, given-first, left-opens, opens-left, left-ordered, none-missed, asking-from-none, full-takes-given}
+use Rattle.board.proofs.Placed.{full-rejected, placed-opens}
+use Rattle.board.proofs.Asking.{given, IsOpening, given-first, left-opens, opens-left, left-ordered, none-missed, full-takes-given}
+use Rattle.board.proofs.Looked.{listed-board, counted-board}
+use Rattle.board.specs.Answers.{told}
 use Rattle.events.specs.declared.Event.{Event}
-use Rattle.events.specs.declared.Reading.the-variants.{Got}
-use Rattle.events.specs.Records.{recordOf, readFrom, written, writtenBuffer}
+use Rattle.events.specs.declared.Reading.the-variants.{Got, End, CutShort, Unknown}
+use Rattle.events.specs.Records.{recordOf, readFrom, written, writtenBuffer, toldRead, toldWritten}
 use Rattle.events.proofs.RoundTrip.{Fits, Bytes, read-written, written-again}
-use mathlib.Core.Path.{refl}
-use lib.ListN.{drop, getD, replicate}
-use Rattle.lists.specs.Lists.{pairwise?, all?}
-use Rattle.tasks.specs.Numbers.{device}
-use Rattle.tasks.specs.Tasks.{freeSlot, stamped, stampedAll}
 use Rattle.events.specs.declared.Reading.{Reading}
-use Rattle.events.specs.declared.Reading.the-variants.{End, CutShort, Unknown}
 use Rattle.events.specs.declared.Written.the-variants.{NoRoom, Length}
-use Rattle.events.specs.Records.{toldRead, toldWritten}
 use Rattle.events.proofs.Writing.{short-answer, short-buffer, room-answer, room-buffer}
+use Rattle.promises.proofs.Clauses.{Any, Row, First, Clear, Given, Holding, Rises, Reads, new-board-rows, submission-rows, instant-rows, withdrawal-rows, openings-rows}
+use Rattle.promises.proofs.Clauses.{horizon-rows, Books, Ages, Removes, ListsRuns, CountsHeld, Stamps}
+use Rattle.promises.proofs.Following.{books, books-nothing, ages, removes, lists-runs, counts-held, opened-board, stamps, stamps-all, buffer-reads-back, buffer-written-again}
+use Rattle.promises.proofs.Settled.{books-settled, ages-settled, removes-settled, runs-settled, held-settled, stamps-settled}
+use Rattle.promises.proofs.Refusing.{first-refused, clear-done, told-given, given-once, clear-first, first-lowest, refused-first, what-reads, reads-that, decides-new-board}
+use Rattle.promises.proofs.Refusing.{decides-submission, decides-instant, decides-withdrawal, decides-openings, decides-horizon}
+use Rattle.promises.proofs.AskingOn.{allOpenings, reply, askingOn, saidMore, Roomy, ordered-once, from-none, reply-answers, reply-writes, more-true, more-false, asking-gives-all}
+use Rattle.promises.proofs.AskingOn.{asking-ends, asked-to-end}
+use Rattle.promises.proofs.Published.{AnswersAs, FreeRun, ReleasedRun, VisitsEach, IsFinish, IsRelease, LastFinish, reference-as, horizon-as, stuffing-as, free-out, free-in}
+use Rattle.promises.proofs.Published.{release-last, free-run-opens, released-run-opens}
+use Rattle.promises.proofs.Answering.{Allows, allowed, FirstOpening, full-taken, takes-full, full-places, rejects-full}
 use Rattle.board.proofs.Board.new.Reads as new
 use Rattle.board.proofs.Board.is_sound.Reads as is-sound
 use Rattle.board.proofs.Board.submit.Reads as submit
@@ -59,18 +66,6 @@ use Rattle.tasks.proofs.stamp.Reads as stamp
 use Rattle.events.proofs.read.Reads as read
 use Rattle.events.proofs.read_at.Reads as read-at
 use Rattle.events.proofs.write.Reads as write
-use Rattle.promises.proofs.Clauses.{Any, Row, First, Clear, Given, Holding, Rises, Reads}
-use Rattle.promises.proofs.Clauses.{new-board-rows, submission-rows, instant-rows, withdrawal-rows, openings-rows, horizon-rows}
-use lib.Dec.{T}
-use Rattle.slots.proofs.Soundness.{sound-out, sound-in}
-use Rattle.board.specs.Refusals.{soundBoard}
-use Rattle.board.specs.Answers.{told}
-use Rattle.board.proofs.Looked.{listed-board, counted-board}
-use Rattle.promises.proofs.Clauses.{Books, Ages, Removes, ListsRuns, CountsHeld, Stamps}
-use Rattle.promises.proofs.Following.{books, books-nothing, ages, removes, lists-runs, counts-held, opened-board, stamps, stamps-all, buffer-reads-back, buffer-written-again}
-use Rattle.promises.proofs.Settled.{books-settled, ages-settled, removes-settled, runs-settled, held-settled, stamps-settled}
-use Rattle.promises.proofs.Refusing.{first-refused, clear-done, told-given, given-once, clear-first, first-lowest, refused-first, what-reads, reads-that}
-use Rattle.promises.proofs.Refusing.{decides-new-board, decides-submission, decides-instant, decides-withdrawal, decides-openings, decides-horizon}
 
 -- DEMAND 1. "Every call takes any board, task, instant or buffer and ends": a caller has nothing to show (`X.Asked` is the `requires` of X as they
 -- stand in the code; `stamp_all`, walked by hand, has no `Asked` to read, and no `requires`), and each call is proved to end.
@@ -199,21 +194,40 @@ pub demand-1-writer-told : (n : ℕ) → (toldWritten NoRoom ≡ record { number
 unfolding toldWritten
 demand-1-writer-told n = (refl, refl)
 
--- DEMAND 2. "Reference, Horizon and Stuffing answer exactly as published": at the least visited time that has a candidate, with the first there
-pub demand-2-stuffing : (W now : ℕ) (ts : List Task) (a : Submission) {p : Place} → stuffing W now ts a ≡ some p → Answers (candidates W now ts a) (visited W now ts a (map finish ts)) p
-demand-2-stuffing W now ts a e = stuffing-answers W now ts a e
+-- DEMAND 2. "Reference, horizon and stuffing answer exactly as the published definitions of Steiger, Walder and Platzner say, with ties and edges as document 01 settles them":
+-- a task that is not refused is placed at the left edge of the narrowest (of equals the leftmost) run tried at the first visited time that has one (`Chosen`), with finish s + e;
+-- it is rejected exactly when no visited time has one, and there is no third answer (`AnswersAs`). Reference: at now only, the free intervals without a conflict with a waiting task
+pub demand-2-reference : (b : Board) (a : Submission) → refusedSubmit b 0 a ≡ 0 → AnswersAs b 0 a (λ i. i ≡ b .now) (FreeRun b a)
+demand-2-reference = reference-as
 
-pub demand-2-stuffing-rejects : (W now : ℕ) (ts : List Task) (a : Submission) → stuffing W now ts a ≡ none
-    → (i : ℕ) → i ∈ visited W now ts a (map finish ts) → candidates W now ts a i ≡ []
-demand-2-stuffing-rejects W now ts a e = stuffing-rejects W now ts a e
+-- Horizon (Algorithm 1): now, then each release of a column after now and up to d − e; the longest runs of columns released by then
+pub demand-2-horizon : (b : Board) (a : Submission) → refusedSubmit b 1 a ≡ 0 → AnswersAs b 1 a (VisitsEach b a (IsRelease b)) (ReleasedRun b a)
+demand-2-horizon = horizon-as
 
-pub demand-2-horizon : (W now : ℕ) (ts : List Task) (a : Submission) {p : Place} → horizon W now ts a ≡ some p
-    → Answers (releasedEdges W now ts a) (visited W now ts a (map (release now ts) (columns W))) p
-demand-2-horizon W now ts a e = horizon-answers W now ts a e
+-- Stuffing (Algorithm 2): now, then each finish of a live task after now and up to d − e; the free intervals without a conflict with a waiting task
+pub demand-2-stuffing : (b : Board) (a : Submission) → refusedSubmit b 2 a ≡ 0 → AnswersAs b 2 a (VisitsEach b a (IsFinish b)) (FreeRun b a)
+demand-2-stuffing = stuffing-as
 
-pub demand-2-horizon-rejects : (W now : ℕ) (ts : List Task) (a : Submission) → horizon W now ts a ≡ none
-    → (i : ℕ) → i ∈ visited W now ts a (map (release now ts) (columns W)) → releasedEdges W now ts a i ≡ []
-demand-2-horizon-rejects W now ts a e = horizon-rejects W now ts a e
+-- the two tests of a column there: it is free at t exactly if no live task holds it at t, and its release is the later of now and the last finish of any live task on it
+pub demand-2-free : (b : Board) (t c : ℕ) → T (free (liveOf b) t c) → (u : Task) → u ∈ liveOf b → Holds t c u → ⊥
+demand-2-free = free-out
+
+pub demand-2-free-if : (b : Board) (t c : ℕ) → ((u : Task) → u ∈ liveOf b → Holds t c u → ⊥) → T (free (liveOf b) t c)
+demand-2-free-if = free-in
+
+pub demand-2-release : (b : Board) (c : ℕ) → LastFinish b c (release (b .now) (liveOf b) c)
+demand-2-release = release-last
+
+-- a run that is tried in the window is an opening: at the left edge of a free interval, to meet no waiting task is to meet no live task
+pub demand-2-free-run : (b : Board) (a : Submission) (t : ℕ) (r : Run) → b .now ≤ t → t + a .e ≤ a .d → FreeRun b a t r → IsOpening b a (pair t (r .left))
+demand-2-free-run = free-run-opens
+
+pub demand-2-released-run : (b : Board) (a : Submission) (t : ℕ) (r : Run) → b .now ≤ t → t + a .e ≤ a .d → ReleasedRun b a t r → IsOpening b a (pair t (r .left))
+demand-2-released-run = released-run-opens
+
+-- whatever any planner places is an opening: it starts from now on, lies within the device, overlaps no live task (Definition 1), and meets the deadline
+pub demand-2-places : (b : Board) (n : ℕ) (a : Submission) {c s f : ℕ} → submitted b n a .answer ≡ Placed c s f → IsOpening b a (pair s c) × (f ≡ s + a .e)
+demand-2-places b n a e = placed-opens b n a e
 
 -- "new board, booking, clock, withdrawal, lists, counts and stamps follow its rules": the rules stand in Clauses, clause by clause.
 -- A new board "has the W and H asked for, now 0 and 64 free slots"
@@ -286,39 +300,96 @@ pub demand-2-buffer-written-again : (l : List ℕ) → Bytes l → (v : Event) (
     → (written v (length buffer) ≡ Length size) × (writtenBuffer v buffer ≡ take size l ++ drop size buffer)
 demand-2-buffer-written-again = buffer-written-again
 
--- DEMAND 3, of the openings call on a sound board, for a well-formed task whose deadline can still be reached
+-- DEMAND 3. "For a sound board and a well-formed task whose deadline can still be reached"
 module _ (b : Board) (a : Submission) (s : SoundBoard b) (k : Reachable b a) where
-  -- what a call after the pair p gives is the first of what comes after p, as many as fit
+  -- "the list of openings holds every start from now on, and column within the device, that overlaps no live task and meets the deadline": each of these, and no other
+  pub demand-3-every : (q : Place) → IsOpening b a q → q ∈ allOpenings b a
+  demand-3-every = opens-listed (b .device .columns) (b .now) (liveOf b) a
+
+  pub demand-3-only : (q : Place) → q ∈ allOpenings b a → IsOpening b a q
+  demand-3-only q m = listed-opens (b .device .columns) (b .now) (liveOf b) a m
+
+  -- "each exactly once, by start and then column"
+  pub demand-3-order : Sorted Before (allOpenings b a)
+  demand-3-order = openings-ordered (b .device .columns) (b .now) (liveOf b) a
+
+  pub demand-3-once : (d : Place) (i j : ℕ) → i < j → j < length (allOpenings b a) → getD (allOpenings b a) i d ≡ getD (allOpenings b a) j d → ⊥
+  demand-3-once = ordered-once (allOpenings b a) demand-3-order
+
+  -- a call after the pair p gives the first of what comes after p, as many as fit; what comes after p is every opening after p, in that order
   pub demand-3-given : (p : Place) (buffer : List ℕ) → given b a p buffer ≡ take (length buffer / 2) (remaining b a (p .start) (p .place))
   demand-3-given = given-first b a s k
 
-  -- "The list of openings holds every opening": it starts from now on, lies within the device, overlaps no live task and meets the deadline
-  pub demand-3-every : (p q : Place) → IsOpening b a q → Before p q → q ∈ remaining b a (p .start) (p .place)
-  demand-3-every = opens-left b a s k
+  pub demand-3-every-after : (p q : Place) → IsOpening b a q → Before p q → q ∈ remaining b a (p .start) (p .place)
+  demand-3-every-after = opens-left b a s k
 
-  pub demand-3-only : (p q : Place) → q ∈ remaining b a (p .start) (p .place) → IsOpening b a q × Before p q
-  demand-3-only = left-opens b a s k
+  pub demand-3-only-after : (p q : Place) → q ∈ remaining b a (p .start) (p .place) → IsOpening b a q × Before p q
+  demand-3-only-after = left-opens b a s k
 
-  -- "exactly once, in order"
-  pub demand-3-order : (p : Place) → Sorted Before (remaining b a (p .start) (p .place))
-  demand-3-order = left-ordered b a s k
+  pub demand-3-order-after : (p : Place) → Sorted Before (remaining b a (p .start) (p .place))
+  demand-3-order-after = left-ordered b a s k
+
+  -- after (0, 0), as the first time: all of them
+  pub demand-3-first-time : remaining b a 0 0 ≡ allOpenings b a
+  demand-3-first-time = from-none b a s k
+
+  -- its answer is 0, the number of those given and the board as it was; in the buffer they stand in front, and every other word stays
+  pub demand-3-answer : (p : Place) (buffer : List ℕ)
+      → (reply b a p buffer .number ≡ 0) × (reply b a p buffer .count ≡ length (given b a p buffer)) × (reply b a p buffer .board ≡ b)
+  demand-3-answer = reply-answers b a s k
+
+  pub demand-3-buffer : (p : Place) (buffer : List ℕ) → openedBuffer b a (p .start) (p .place) buffer ≡ overFront (pairNumbers (given b a p buffer)) buffer
+  demand-3-buffer = reply-writes b a s k
+
+  -- it says that a further one remains exactly when an opening comes after the last one given
+  pub demand-3-more : (p : Place) (buffer : List ℕ) → reply b a p buffer .more ≡ true → (q : Place) × IsOpening b a q × Before (lastOr p (given b a p buffer)) q
+  demand-3-more = more-true b a s k
+
+  pub demand-3-no-more : (p : Place) (buffer : List ℕ) → reply b a p buffer .more ≡ false → (q : Place) → IsOpening b a q → Before (lastOr p (given b a p buffer)) q → ⊥
+  demand-3-no-more = more-false b a s k
 
   -- two calls never both miss one
   pub demand-3-none-missed : (p q : Place) (buffer : List ℕ) → IsOpening b a q → Before p q → (q ∈ given b a p buffer) ⊎ Before (lastOr p (given b a p buffer)) q
   demand-3-none-missed = none-missed b a s k
 
-  -- "asking on reaches its end"
-  pub demand-3-asking-on : (n : ℕ) (buffer : List ℕ) → 2 ≤ length buffer → length (openings (b .device .columns) (b .now) (liveOf b) a) ≤ n
-      → asking b a n (pair 0 0) buffer ≡ openings (b .device .columns) (b .now) (liveOf b) a
-  demand-3-asking-on = asking-from-none b a s k
+  -- "On an unchanged board, asking on from the last one given, with room for one or more, reaches the end of it":
+  -- as many calls as openings, each on the board that the one before handed back and with any such buffer, give them all
+  pub demand-3-asking-on : (buffers : List (List ℕ)) → Roomy buffers → length (allOpenings b a) ≤ length buffers → askingOn b a (pair 0 0) buffers ≡ allOpenings b a
+  demand-3-asking-on = asking-gives-all b a s k
 
-  -- "Full takes the first and rejects exactly when there is none"
-  pub demand-3-full : (buffer : List ℕ) → 2 ≤ length buffer → refusedSubmit b 3 a ≡ 0 → submitted b 3 a ≡ taken b a (head? (given b a (pair 0 0) buffer))
-  demand-3-full = full-takes-given b a s k
+  -- and they end: the last call says that none remains, every one before it that one does
+  pub demand-3-end : (buffers : List (List ℕ)) → Roomy buffers → 1 ≤ length buffers → length (allOpenings b a) ≤ length buffers
+      → (n : ℕ) × (saidMore b a (pair 0 0) buffers ≡ replicate n true ++ (false ∷ []))
+  demand-3-end = asking-ends b a s k
 
-pub demand-3-full-first : (b : Board) (a : Submission) {c s f : ℕ} → submitted b 3 a .answer ≡ Placed c s f
-    → (q : Place) → Opening (b .device .columns) (b .now) (liveOf b) a q → (q ≡ pair s c) ⊎ Before (pair s c) q
-demand-3-full-first b a e = full-placed b a e
+  -- so whoever asks on until a call says that none remains has been given them all, with fewer calls too
+  pub demand-3-asked-to-end : (buffers : List (List ℕ)) (n : ℕ) → saidMore b a (pair 0 0) buffers ≡ replicate n true ++ (false ∷ [])
+      → askingOn b a (pair 0 0) buffers ≡ allOpenings b a
+  demand-3-asked-to-end = asked-to-end b a s k
 
-pub demand-3-full-rejects : (b : Board) (a : Submission) → submitted b 3 a .answer ≡ Rejected → (q : Place) → Opening (b .device .columns) (b .now) (liveOf b) a q → ⊥
-demand-3-full-rejects = full-rejected
+  -- "If id and table allow the task" (the id is not 0 and not live, fewer than 64 tasks are live): no planner refuses it
+  pub demand-3-allowed : Allows b a → (n : ℕ) → n ≤ lastPlanner → refusedSubmit b n a ≡ 0
+  demand-3-allowed o n h = allowed b n a h s k o
+
+  -- "the full planner takes the first opening"
+  pub demand-3-full : Allows b a → (p : Place) → FirstOpening b a p → submitted b 3 a .answer ≡ Placed (p .place) (p .start) (p .start + a .e)
+  demand-3-full o = takes-full b a (demand-3-allowed o 3 (omega arith))
+
+  pub demand-3-full-places : Allows b a → (q : Place) → IsOpening b a q
+      → (p : Place) × FirstOpening b a p × (submitted b 3 a .answer ≡ Placed (p .place) (p .start) (p .start + a .e))
+  demand-3-full-places o = full-places b a (demand-3-allowed o 3 (omega arith))
+
+  -- answer and board: it takes the first that the openings call gives
+  pub demand-3-full-given : Allows b a → (buffer : List ℕ) → 2 ≤ length buffer → submitted b 3 a ≡ taken b a (head? (given b a (pair 0 0) buffer))
+  demand-3-full-given o buffer h = full-takes-given b a s k buffer h (demand-3-allowed o 3 (omega arith))
+
+  -- "and rejects exactly when there is none"
+  pub demand-3-full-rejects : Allows b a → ((q : Place) → IsOpening b a q → ⊥) → submitted b 3 a .answer ≡ Rejected
+  demand-3-full-rejects o = rejects-full b a (demand-3-allowed o 3 (omega arith))
+
+-- and whatever Full places is the first opening; where it rejects, there is none
+pub demand-3-full-first : (b : Board) (a : Submission) {c s f : ℕ} → submitted b 3 a .answer ≡ Placed c s f → FirstOpening b a (pair s c) × (f ≡ s + a .e)
+demand-3-full-first b a e = full-taken b a e
+
+pub demand-3-full-rejected : (b : Board) (a : Submission) → submitted b 3 a .answer ≡ Rejected → (q : Place) → IsOpening b a q → ⊥
+demand-3-full-rejected = full-rejected

@@ -5,6 +5,9 @@ pub mod Settled
 pub mod Proved
 pub mod Unique
 pub mod Session
+pub mod AskingOn
+pub mod Answering
+pub mod Published
 pub mod Demands
 pub mod Lines
 pub mod Recordings

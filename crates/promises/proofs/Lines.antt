@@ -16,7 +16,7 @@ use Rattle.text.specs.Text.{ascii, decimal}
 use Rattle.text.proofs.Meaning.{Digits, decimal-value, decimal-digits}
 use Rattle.tokens.specs.declared.Sort.the-variants.{Hash}
 use Rattle.tokens.specs.Tokens.{blank, stopsAt, ended, wordsOn, words, firstWord, otherWords, same, empty, wrong, nth}
-use Rattle.tokens.proofs.Judged.{reads-decimal, some-digit}
+use Rattle.tokens.proofs.Judged.{fits-decimal, some-digit}
 use Rattle.lines.specs.declared.Line.the-variants.{Says}
 use Rattle.lines.specs.Lines.{lessReturn, bare, plannerOf, saidOr, boardLine, clockLine, withdrawLine, asks, submitBehind, submitLine, saidBy, says}
 use Rattle.promises.specs.Said.{joined, wordsOf, Wide}
@@ -116,7 +116,7 @@ planner-number n h =
       no-name (decimal n) 104 (111 ∷ 114 ∷ 105 ∷ 122 ∷ 111 ∷ 110 ∷ []) d (omega arith),
       no-name (decimal n) 115 (116 ∷ 117 ∷ 102 ∷ 102 ∷ 105 ∷ 110 ∷ 103 ∷ []) d (omega arith),
       no-name (decimal n) 102 (117 ∷ 108 ∷ 108 ∷ []) d (omega arith),
-      reads-decimal 255 n (omega arith),
+      fits-decimal 255 n (omega arith),
     ) (decimal-value n)
 
 board-word : Worded (ascii "board")
@@ -144,23 +144,23 @@ pub says-event : (v : Event) → Wide v → says (joined (wordsOf v)) ≡ Says v
 unfolding Wide wordsOf saidBy empty same firstWord otherWords boardLine clockLine withdrawLine submitLine submitBehind asks saidOr wrong nth
 says-event (NewBoard W H) h =
     says-words ((ascii "board") ∷ decimal W ∷ decimal H ∷ []) (more board-word (more (a-number W) (more (a-number H) none)))
-    ∙ rw (reads-decimal 65535 W (omega arith), reads-decimal 65535 H (omega arith), decimal-value W, decimal-value H)
+    ∙ rw (fits-decimal 65535 W (omega arith), fits-decimal 65535 H (omega arith), decimal-value W, decimal-value H)
 says-event (Submit n a) h =
     says-words ((ascii "submit") ∷ decimal n ∷ decimal (a .id) ∷ decimal (a .w) ∷ decimal (a .h) ∷ decimal (a .e) ∷ decimal (a .d) ∷ [])
     (more submit-word (more (a-number n) (more (a-number (a .id)) (more (a-number (a .w)) (more (a-number (a .h)) (more (a-number (a .e)) (more (a-number (a .d)) none)))))))
     ∙ rw (
       planner-number n (h .0),
       ne-eqb n 256 (λ e. omega arith),
-      reads-decimal 4294967295 (a .id) (omega arith),
-      reads-decimal 65535 (a .w) (omega arith),
-      reads-decimal 65535 (a .h) (omega arith),
-      reads-decimal 4294967295 (a .e) (omega arith),
-      reads-decimal 4294967295 (a .d) (omega arith),
+      fits-decimal 4294967295 (a .id) (omega arith),
+      fits-decimal 65535 (a .w) (omega arith),
+      fits-decimal 65535 (a .h) (omega arith),
+      fits-decimal 4294967295 (a .e) (omega arith),
+      fits-decimal 4294967295 (a .d) (omega arith),
       decimal-value (a .id),
       decimal-value (a .w),
       decimal-value (a .h),
       decimal-value (a .e),
       decimal-value (a .d),
     )
-says-event (Clock i) h = says-words ((ascii "clock") ∷ decimal i ∷ []) (more clock-word (more (a-number i) none)) ∙ rw (reads-decimal 4294967295 i (omega arith), decimal-value i)
-says-event (Withdraw n) h = says-words ((ascii "withdraw") ∷ decimal n ∷ []) (more withdraw-word (more (a-number n) none)) ∙ rw (reads-decimal 4294967295 n (omega arith), decimal-value n)
+says-event (Clock i) h = says-words ((ascii "clock") ∷ decimal i ∷ []) (more clock-word (more (a-number i) none)) ∙ rw (fits-decimal 4294967295 i (omega arith), decimal-value i)
+says-event (Withdraw n) h = says-words ((ascii "withdraw") ∷ decimal n ∷ []) (more withdraw-word (more (a-number n) none)) ∙ rw (fits-decimal 4294967295 n (omega arith), decimal-value n)

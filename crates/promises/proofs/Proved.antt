@@ -1,9 +1,10 @@
 -- The proving set, and the cases that tell near misses apart, hold: the checker computes them from the definitions. Assumes nothing.
-use mathlib.Core.Path.{_≡_, refl}
+use mathlib.Core.Path.{_≡_, refl, sym, subst}
 use mathlib.Core.Bool.{true, false}
 use mathlib.Core.List.{[], _∷_, _++_}
 use Prim.Native.Nat.{_^_}
 use lib.Dec.{T}
+use Rattle.table1.proofs.rows.Reads as rows
 use Rattle.events.specs.declared.Event.the-variants.{NewBoard, Submit, Clock}
 use Rattle.session.specs.Recording.{mostEvents}
 use Rattle.promises.specs.ProvingSet.{headerLine}
@@ -11,7 +12,6 @@ use Rattle.text.specs.Text.{ascii, decimalIn, decimal, lineText, rowText}
 use Rattle.answer_words.specs.AnswerWords.{answerWords}
 use Rattle.worded.specs.Worded.{idText, wordedText}
 use Rattle.listing.specs.Listing.{headerText, listingText, stopText, endText, planText}
-use Rattle.promises.specs.Cases.{submit, clock}
 use Rattle.lists.specs.Lists.{keep, some?, all?, pairwise?, head?, orElse, lastOr, indexOf, putFirst, insertBy, sortBy, each, firstOf, range, highest, addTo, rising}
 use Rattle.ways.specs.Ways.{isOpen, pairsIn, openingsIn, after, openingsAfter, askedOn}
 use Rattle.tasks.specs.Tasks.{meets, covers, holds, phaseAt, stamped, zeros, booked}
@@ -25,9 +25,10 @@ use Rattle.board.specs.Calls.{orRefused, freshBoard, created, withTask, taken, 
 use Rattle.board.specs.Refusals.{refusal, refusedCreate, refusedSubmit, refusedInstant, refusedWithdraw, refusedOpenings, refusedHorizon}
 use Rattle.events.specs.Records.{bytesOf, numberOf, kindOf, bodyOf, recordOf, wholeOr15, readFrom, written, writtenBuffer, toldRead, toldWritten, idOf}
 use Rattle.session.specs.Recording.{firstState, lineOf, stopLine, outcome, storyFrom, story}
-use Rattle.promises.specs.Cases.{numbers, afterEvent, play, same, sameAll, passes, at, only}
-use Rattle.promises.specs.Edges.{refusedList, edgeSet, filled}
-use Rattle.promises.specs.ProvingSet.{played, tableWith, withClocks, firstSix, seven, listing, provingSet, twoRuns, waitingAhead, tellingSet, listingEvents, listingPrinted, recording}
+use Rattle.promises.specs.Cases.{numbers, recordNumbers, afterEvent, play, same, sameAll, passes, at, only}
+use Rattle.promises.specs.Edges.{refusedList, endOf, filledUp, edgeSet}
+use Rattle.promises.specs.ProvingSet.{played, withDeadline, tableWith, withClocks, firstSix, seven, listing, provingSetOver, provingSet}
+use Rattle.promises.specs.ProvingSet.{twoRuns, waitingAhead, tellingSet, listingEvents, listingPrinted, recording}
 
 -- every definition of the book, opened so that it computes, group by group
 open-lists : Unit {0}
@@ -59,15 +60,19 @@ unfolding decimalIn decimal lineText rowText answerWords idText wordedText heade
 open-texts = tt
 
 open-cases : Unit {0}
-unfolding numbers afterEvent play same sameAll passes at only
+unfolding numbers recordNumbers afterEvent play same sameAll passes at only
 open-cases = tt
 
 open-sets : Unit {0}
-unfolding refusedList edgeSet filled played tableWith withClocks firstSix seven listing provingSet twoRuns waitingAhead tellingSet listingEvents listingPrinted recording
+unfolding refusedList endOf filledUp edgeSet played withDeadline tableWith withClocks firstSix seven listing provingSetOver provingSet twoRuns waitingAhead tellingSet
 open-sets = tt
 
+open-listing : Unit {0}
+unfolding listingEvents listingPrinted recording
+open-listing = tt
+
 open-book : Unit {0}
-unfolding open-lists open-planners open-lookups open-board open-refusals open-records open-cases open-sets open-texts
+unfolding open-lists open-planners open-lookups open-board open-refusals open-records open-cases open-sets open-listing open-texts
 open-book = tt
 
 -- CASES 1 TO 9 OF DOCUMENT 01
@@ -75,20 +80,19 @@ pub proving-set : T (all? passes provingSet)
 unfolding open-book
 proving-set = tt
 
+-- the same of the constant in the code: whatever `table1::rows` may return by its promise, the set over it holds
+pub proving-rows : (κs : _) (a : _) (r : _) (s : _) → rows.Post κs a r s → T (all? passes (provingSetOver r))
+proving-rows κs a r s e = subst (λ t. T (all? passes (provingSetOver t))) (sym e) (unfold provingSet in proving-set)
+
 -- what the nine cases alone do not tell apart
 pub telling-set : T (all? passes tellingSet)
 unfolding open-book
 telling-set = tt
 
--- the edges of the number ranges, and the order of the refusals
+-- the edges of the number ranges, the order of the refusals, and cases 10 to 12 of document 01
 pub edge-set : T (all? passes edgeSet)
 unfolding open-book
 edge-set = tt
-
--- case 11: with 64 live the next gives 9 even where no place exists, but 8 first; after they end a slot is taken
-pub filled-up : play (submit 0 65 1 1 1 9 ∷ submit 3 65 1 1 1 0 ∷ clock 9 ∷ submit 0 65 64 1 1 10 ∷ []) filled ≡ only 9 ∷ only 8 ∷ only 0 ∷ at 1 9 10 ∷ []
-unfolding open-book
-filled-up = refl
 
 -- THE LISTING OF DOCUMENT 01, from the bytes of its records to the bytes that `plan` prints
 pub listing-printed : planText false (recording listingEvents) ≡ record { out = listingPrinted; err = [] }

@@ -3,7 +3,9 @@ use Prim.Native.Nat.{ℕ}
 use mathlib.Core.Bool.{Bool, true, false, cond}
 use mathlib.Core.List.{List, [], _∷_}
 use lib.Dec.{eqb}
-use lib.ListN.{replicate}
+use lib.ListN.{getD, replicate}
+use Rattle.tasks.specs.declared.Task.{Task}
+use Rattle.tasks.specs.Tasks.{live, waitingPhase, freeSlot}
 use Rattle.tasks.specs.declared.Submission.{Submission}
 use Rattle.board.specs.declared.Board.{Board}
 use Rattle.board.specs.Answers.{Told}
@@ -30,16 +32,21 @@ pub data Step : Type 0 where
   horizon : (words : ℕ) → Step
   openings : (w h e d start column words : ℕ) → Step
   busy : (instant : ℕ) → Step
+  slot : (place : ℕ) → Step
 
 -- number, column, start, finish
 unfoldable pub numbers : Told → List ℕ
 numbers a = a .number ∷ a .column ∷ a .start ∷ a .finish ∷ []
 
+-- "A record holds id, w, h, e, d, column, start and phase": as numbers, the phase 0 ended, 1 waiting, 2 running
+unfoldable pub recordNumbers : Task → List ℕ
+recordNumbers k = k .id ∷ k .w ∷ k .h ∷ k .e ∷ k .d ∷ k .column ∷ k .start ∷ cond (live k) (cond (waitingPhase (k .phase)) 1 2) 0 ∷ []
+
 -- an event's numbers, and the rest from the board that follows
 unfoldable pub afterEvent : Outcome → (Board → List (List ℕ)) → List (List ℕ)
 afterEvent r rest = numbers (r .answer) ∷ rest (r .state .board)
 
--- a list of numbers for each step: of a question, its number, its counts and the whole buffer
+-- a list of numbers for each step: of a question, its number, its counts and the whole buffer; of a look at a slot (from 0), its record
 unfoldable pub play : List Step → Board → List (List ℕ)
 play [] b = []
 play (board W H ∷ vs) b = afterEvent (outcome (withBoard firstState b) (NewBoard W H)) (play vs)
@@ -55,6 +62,7 @@ play (openings w h e d s c words ∷ vs) b =
 play (busy i ∷ vs) b =
     let r = counted b i in
     (r .number ∷ r .count ∷ []) ∷ play vs (r .board)
+play (slot i ∷ vs) b = recordNumbers (getD (b .tasks) i freeSlot) ∷ play vs b
 
 -- steps on a new board of W columns and H rows, and what comes of each
 pub record Case : Type 0 where

@@ -1,19 +1,34 @@
 -- The edges of every number range, and each refusal beside those that could win over it. Assumes nothing.
 use Prim.Native.Nat.{ℕ}
-use mathlib.Core.List.{List, [], _∷_, map}
+use mathlib.Core.Bool.{cond}
+use mathlib.Core.List.{List, [], _∷_, _++_, map}
+use lib.Dec.{eqb}
 use lib.ListN.{replicate}
 use Rattle.lists.specs.Lists.{range}
-use Rattle.tasks.specs.declared.Phase.the-variants.{Running}
-use Rattle.tasks.specs.declared.Task.{Task}
-use Rattle.tasks.specs.Numbers.{device}
-use Rattle.board.specs.declared.Board.{Board}
-use Rattle.promises.specs.Cases.{board, submit, clock, withdraw, horizon, openings, busy, Case, case, at, only}
+use Rattle.promises.specs.Cases.{board, submit, clock, withdraw, horizon, openings, busy, slot, Case, case, at, only}
 
 -- a question that is refused: the number, a count of 0, for openings no further one, and a buffer as it was
 unfoldable pub refusedList : ℕ → List ℕ → List ℕ
 refusedList n buffer = n ∷ 0 ∷ buffer
 
--- THE EDGES, cases 10 and 12 of document 01 among them
+-- the finish of the task of column c where 64 columns are filled: that of column 5 ends at 3, the others at 9
+unfoldable pub endOf : ℕ → ℕ
+endOf c = cond (eqb c 5) 3 9
+
+-- CASE 11. 64 tasks, the one of id c in column c and slot c − 1. "64 live: the next gives 9 even where no place exists": with a place (Full, at 3 in
+-- column 5), without one, and 8 first. "After one ends its slot is taken": that of slot 4 alone has ended, the next takes just that slot, and those
+-- beside it stay; 64 are live again
+unfoldable pub filledUp : Case
+filledUp =
+    case 64 1 (map (λ c. submit 0 c 1 1 (endOf c) 9) (range 1 64)
+    ++ (submit 3 65 1 1 1 9 ∷ submit 3 65 1 1 1 3 ∷ submit 3 65 1 1 1 0 ∷ slot 4 ∷ clock 3 ∷ slot 4
+    ∷ submit 0 65 1 1 6 9 ∷ slot 3 ∷ slot 4 ∷ slot 5 ∷ submit 3 66 1 1 1 9 ∷ []))
+    (map (λ c. at c 0 (endOf c)) (range 1 64)
+    ++ (only 9 ∷ only 9 ∷ only 8 ∷ (5 ∷ 1 ∷ 1 ∷ 3 ∷ 9 ∷ 5 ∷ 0 ∷ 2 ∷ []) ∷ only 0 ∷ replicate 8 0
+    ∷ at 5 3 9 ∷ (4 ∷ 1 ∷ 1 ∷ 9 ∷ 9 ∷ 4 ∷ 0 ∷ 2 ∷ [])
+    ∷ (65 ∷ 1 ∷ 1 ∷ 6 ∷ 9 ∷ 5 ∷ 3 ∷ 2 ∷ []) ∷ (6 ∷ 1 ∷ 1 ∷ 9 ∷ 9 ∷ 6 ∷ 0 ∷ 2 ∷ []) ∷ only 9 ∷ []))
+
+-- THE EDGES, cases 10 to 12 of document 01 among them
 unfoldable pub edgeSet : List Case
 edgeSet =
     -- new board: W 1 to 256, H 1 to 1,024; a refused one leaves the board of zeros, on which every call answers 1
@@ -57,11 +72,5 @@ edgeSet =
     ∷ case 4 1 (submit 0 1 2 1 2 9 ∷ submit 1 2 3 1 4 9 ∷ busy 0 ∷ busy 1 ∷ busy 2 ∷ busy 5 ∷ busy 6 ∷ clock 1 ∷ busy 0 ∷ busy 2000000000 ∷ busy 2000000001 ∷ [])
     (at 1 0 2 ∷ at 1 2 6 ∷ (0 ∷ 2 ∷ []) ∷ (0 ∷ 2 ∷ []) ∷ (0 ∷ 3 ∷ []) ∷ (0 ∷ 3 ∷ []) ∷ (0 ∷ 0 ∷ [])
     ∷ only 0 ∷ (11 ∷ 0 ∷ []) ∷ (0 ∷ 0 ∷ []) ∷ (12 ∷ 0 ∷ []) ∷ [])
+    ∷ filledUp
     ∷ []
-
--- 64 columns and 64 live tasks, the task in column c with id c
-unfoldable pub filled : Board
-filled = record { tasks = map live (range 1 64); now = 0; device = device 64 1 }
-  where
-    live : ℕ → Task
-    live c = record { id = c; e = 9; d = 9; start = 0; w = 1; h = 1; column = c; phase = Running }

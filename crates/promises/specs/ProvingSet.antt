@@ -16,9 +16,13 @@ played n id [] = []
 played n id (r ∷ rs) =
     clock (getD r 0 0) ∷ submit n id (getD r 3 0) (getD r 4 0) (getD r 1 0) (getD r 2 0) ∷ played n (suc id) rs
 
+-- a row with another deadline
+unfoldable pub withDeadline : ℕ → List ℕ → List ℕ
+withDeadline d r = getD r 0 0 ∷ getD r 1 0 ∷ d ∷ getD r 3 0 ∷ getD r 4 0 ∷ []
+
 -- the table with another deadline for task 7
-unfoldable pub tableWith : ℕ → List (List ℕ)
-tableWith d = take 6 table1 ++ ((3 ∷ 2 ∷ d ∷ 3 ∷ 2 ∷ []) ∷ [])
+unfoldable pub tableWith : ℕ → List (List ℕ) → List (List ℕ)
+tableWith d rows = take 6 rows ++ (withDeadline d (getD rows 6 []) ∷ [])
 
 -- the clock's answers between those of the submissions
 unfoldable pub withClocks : List (List ℕ) → List (List ℕ)
@@ -37,23 +41,23 @@ seven n rows out = case 10 6 (played n 1 rows) (withClocks out)
 unfoldable pub listing : List Step → List (List ℕ) → Case
 listing vs out = case 4 1 (submit 2 1 2 1 2 9 ∷ submit 2 2 3 1 4 9 ∷ vs) (at 1 0 2 ∷ at 1 2 6 ∷ out)
 
--- THE PROVING SET, cases 1 to 9
-unfoldable pub provingSet : List Case
-provingSet =
+-- THE PROVING SET, cases 1 to 9, over the rows of a table
+unfoldable pub provingSetOver : List (List ℕ) → List Case
+provingSetOver rows =
     -- 1 Horizon, and 4 the horizon after it
-    case 10 6 (played 1 1 table1 ++ (horizon 13 ∷ []))
+    case 10 6 (played 1 1 rows ++ (horizon 13 ∷ []))
     (withClocks (firstSix ++ (at 4 18 20 ∷ [])) ++ ((0 ∷ 4 ∷ 10 ∷ 10 ∷ 3 ∷ 9 ∷ 9 ∷ 8 ∷ 7 ∷ 8 ∷ 18 ∷ 1 ∷ 6 ∷ 20 ∷ 999 ∷ []) ∷ []))
     -- 2 Stuffing, and Full
-    ∷ seven 2 table1 (firstSix ++ (at 7 8 10 ∷ []))
-    ∷ seven 3 table1 (firstSix ++ (at 7 8 10 ∷ []))
+    ∷ seven 2 rows (firstSix ++ (at 7 8 10 ∷ []))
+    ∷ seven 3 rows (firstSix ++ (at 7 8 10 ∷ []))
     -- 3 Reference
-    ∷ seven 0 table1 (at 1 0 20 ∷ at 4 0 3 ∷ only 10 ∷ only 10 ∷ only 10 ∷ only 10 ∷ at 4 3 5 ∷ [])
+    ∷ seven 0 rows (at 1 0 20 ∷ at 4 0 3 ∷ only 10 ∷ only 10 ∷ only 10 ∷ only 10 ∷ at 4 3 5 ∷ [])
     -- 5 task 7 with d 10, and with d 9
-    ∷ seven 1 (tableWith 10) (firstSix ++ (only 10 ∷ []))
-    ∷ seven 2 (tableWith 10) (firstSix ++ (at 7 8 10 ∷ []))
-    ∷ seven 1 (tableWith 9) (firstSix ++ (only 10 ∷ []))
-    ∷ seven 2 (tableWith 9) (firstSix ++ (only 10 ∷ []))
-    ∷ seven 3 (tableWith 9) (firstSix ++ (only 10 ∷ []))
+    ∷ seven 1 (tableWith 10 rows) (firstSix ++ (only 10 ∷ []))
+    ∷ seven 2 (tableWith 10 rows) (firstSix ++ (at 7 8 10 ∷ []))
+    ∷ seven 1 (tableWith 9 rows) (firstSix ++ (only 10 ∷ []))
+    ∷ seven 2 (tableWith 9 rows) (firstSix ++ (only 10 ∷ []))
+    ∷ seven 3 (tableWith 9 rows) (firstSix ++ (only 10 ∷ []))
     -- 6 the listing, event 4: Reference and Stuffing 10, Horizon and Full (4,0)
     ∷ listing (submit 0 3 1 1 5 5 ∷ []) (only 10 ∷ [])
     ∷ listing (submit 1 3 1 1 5 5 ∷ []) (at 4 0 5 ∷ [])
@@ -66,6 +70,10 @@ provingSet =
     ∷ case 3 1 (submit 0 1 1 1 2 9 ∷ openings 2 1 1 3 0 0 6 ∷ openings 2 1 1 3 2 1 6 ∷ [])
     (at 1 0 2 ∷ (0 ∷ 3 ∷ 1 ∷ 0 ∷ 2 ∷ 1 ∷ 2 ∷ 2 ∷ 1 ∷ []) ∷ (0 ∷ 1 ∷ 0 ∷ 2 ∷ 2 ∷ 999 ∷ 999 ∷ 999 ∷ 999 ∷ []) ∷ [])
     ∷ []
+
+-- over Table 1; `proving-rows` of `proofs/Proved` says that the constant which `table1::rows` returns, and the demonstration reads, is that table
+unfoldable pub provingSet : List Case
+provingSet = provingSetOver table1
 
 -- columns 1–3 free, 4 held, 5–6 free, 7 held, now 1; then others
 unfoldable pub twoRuns : List Step → List (List ℕ) → Case

@@ -82,11 +82,15 @@ some-digit x = go (ltb x 10)
     go true = omega arith
     go false = omega (arith, length-append (decimalIn x (x / 10)) ((48 + x % 10) ∷ []))
 
--- THE DECIMAL TEXT of a number reads as that number where it is at most so large
-pub reads-decimal : (most x : ℕ) → x ≤ most → fits most (decimal x) ≡ true
+-- the decimal text of a number fits where the number is at most so large
+pub fits-decimal : (most x : ℕ) → x ≤ most → fits most (decimal x) ≡ true
 unfolding judged
-reads-decimal most x h =
+fits-decimal most x h =
     fits-some most (decimal x) (some-digit x) ∙ rw (digits-all (decimal x) (decimal-digits x), decimal-value x) (le-leb x most h)
+
+-- THE DECIMAL TEXT of a number reads as that number: it fits, and its value is the number
+pub reads-decimal : (most x : ℕ) → x ≤ most → (fits most (decimal x) ≡ true) × (value 0 (decimal x) ≡ x)
+reads-decimal most x h = (fits-decimal most x h, decimal-value x)
 
 pub digit-least : (b : ℕ) → digit b ≡ true → 48 ≤ b
 digit-least b e = go (leb 48 b) refl e
