@@ -1,34 +1,30 @@
--- A sound board stays sound under every call; nothing moves; a refused call hands back the same board. Assumes nothing.
+-- A sound board stays sound under every call; a refused call hands back the same board; clocks one after the other. Assumes nothing.
 use Prim.Native.Nat.{ℕ, zero, suc, _+_, _≤_, _<_}
-use mathlib.Core.Path.{_≡_, refl, sym, ap, _∙_, subst}
-use mathlib.Core.Logic.{_⊎_, inl, inr}
-use mathlib.Core.Bool.{Bool, false, not, _&&_}
-use mathlib.Core.List.{[], map}
+use mathlib.Core.Path.{_≡_, refl, sym, ap, _∙_}
+use mathlib.Core.Bool.{false, not, _&&_}
+use mathlib.Core.List.{[]}
 use mathlib.Core.Option.{Option, none, some}
 use native.Mathlib.Omega.{arith}
-use native.Mathlib.Decide.{decLe, decLt}
-use lib.Dec.{T, leb, ltb, eqb, leb→le, ltb→lt, nltb→le, nleb→lt, eqb→eq, eqb-refl, T-not}
+use lib.Dec.{T, leb, eqb, leb→le, nltb→le, nleb→lt, eqb-refl, T-not}
 use borrow.Author.Tests.{le-ltb}
-use lib.ListN.{length, getD, replicate, List·getD-map}
-use Rattle.lists.specs.Lists.{_∈_, keep, all?, pairwise?, indexOf}
-use Rattle.lists.proofs.Bools.{and-l, and-r, and-i, bool, not-not, is-true}
-use Rattle.lists.proofs.Members.{in-keep, none-pass, pass-some, getD-in}
-use Rattle.lists.proofs.Order.{sorted-at}
-use Rattle.lists.proofs.Append.{index-test, index-passes}
+use lib.ListN.{length, getD, replicate}
+use Rattle.lists.specs.Lists.{_∈_, keep, all?, pairwise?}
+use Rattle.lists.proofs.Bools.{and-l, and-r, and-i, not-not, is-true}
+use Rattle.lists.proofs.Members.{in-keep, none-pass}
 use Rattle.tasks.specs.declared.Device.{Device}
 use Rattle.tasks.specs.declared.Task.{Task}
 use Rattle.tasks.specs.declared.Submission.{Submission}
 use Rattle.tasks.specs.Numbers.{within, device, deviceFits, sizeFits, timeFits, largestId, lastInstant, longest, lastPlanner}
-use Rattle.tasks.specs.Tasks.{finish, live, waitingPhase, stamped, freeSlot, zeros, booked}
+use Rattle.tasks.specs.Tasks.{live, stamped, freeSlot, zeros, booked}
 use Rattle.tasks.proofs.Laws.{Between, within-out}
 use Rattle.planners.specs.Openings.{Place}
 use Rattle.planners.specs.Planners.{planned}
 use Rattle.planners.proofs.Openings.{Opening}
 use Rattle.planners.proofs.Planners.{planned-opens}
-use Rattle.slots.specs.Slots.{slotSound, sound, named, known, begunNamed, agedTo, allAgedTo, withoutNamed}
-use Rattle.slots.proofs.Soundness.{InPhase, running, waiting, SoundTask, Together, Sound, sound-out, sound-in}
-use Rattle.slots.proofs.Ageing.{stamped-live, stamped-phase, aged-free, aged-ended, aged-stands, aged-sound, aged-now, aged-twice}
-use Rattle.slots.proofs.Booking.{booked-sound, withdrawn-sound, booked-keeps, withdrawn-keeps, withdrawn-free}
+use Rattle.slots.specs.Slots.{slotSound, sound, named, known, withoutNamed}
+use Rattle.slots.proofs.Soundness.{SoundTask, Together, Sound, sound-out, sound-in}
+use Rattle.slots.proofs.Ageing.{stamped-phase, aged-sound, aged-now, aged-twice}
+use Rattle.slots.proofs.Booking.{booked-sound, withdrawn-sound}
 use Rattle.board.specs.declared.Board.{Board}
 use Rattle.board.specs.declared.Answer.the-variants.{Rejected, Refused}
 use Rattle.board.specs.declared.Submitted.{Submitted}
@@ -169,116 +165,6 @@ withdrawn-stays-sound b n s = go (refusedWithdraw b n)
     go : (r : ℕ) → SoundBoard (after r .board)
     go zero = withdrawn-sound (b .device) (b .now) (b .tasks) s n
     go (suc r) = s
-
--- NOTHING MOVES. Submission: every live task stands in its slot as it was
-pub submitted-keeps : (b : Board) (n : ℕ) (a : Submission) (i : ℕ) → i < length (b .tasks) → T (live (slotAt b i)) → slotAt (submitted b n a .board) i ≡ slotAt b i
-unfolding submitted answered orRefused taken withTask
-submitted-keeps b n a i h t = go (refusedSubmit b n a) (planned (b .device .columns) (b .now) (liveOf b) a n)
-  where
-    go : (r : ℕ) (o : Option Place) → slotAt (orRefused r (λ x. record { answer = Refused x; board = b }) (taken b a o) .board) i ≡ slotAt b i
-    go zero none = refl
-    go zero (some p) = booked-keeps (booked (b .now) a (p .start) (p .place)) (b .tasks) i h t
-    go (suc r) o = refl
-
--- Clock: it stands with the phase of the instant, or it has finished by the clock and its slot is exactly the free slot
-pub data Clocks (b′ : Board) (k k′ : Task) : Type 0 where
-  stands : k′ ≡ k → Clocks b′ k k′
-  phased : k′ ≡ stamped (b′ .now) k → T (live k′) → Clocks b′ k k′
-  ended : finish k ≤ b′ .now → k′ ≡ freeSlot → Clocks b′ k k′
-
-pub clocked-keeps : (b : Board) (t i : ℕ) → i < length (b .tasks) → T (live (slotAt b i)) → Clocks (clocked b t .board) (slotAt b i) (slotAt (clocked b t .board) i)
-unfolding clocked orRefused boardAt allAgedTo
-clocked-keeps b t i h l = go (refusedInstant b t)
-  where
-    k : Task
-    k = slotAt b i
-
-    there : slotAt (boardAt b t) i ≡ agedTo t k
-    there = subst (λ d. getD (map (agedTo t) (b .tasks)) i d ≡ agedTo t k) (aged-free t freeSlot tt) (List·getD-map (agedTo t) (b .tasks) i freeSlot)
-
-    step : Dec (finish k ≤ t) → Clocks (boardAt b t) k (slotAt (boardAt b t) i)
-    step (yes d) = ended d (there ∙ aged-ended t k l d)
-    step (no d) =
-        let q : t < finish k = omega arith in
-        let e : slotAt (boardAt b t) i ≡ stamped t k = there ∙ aged-stands t k l q in
-        phased e (subst (λ x. T (live x)) (sym e) (stamped-live t k q))
-
-    after : ℕ → Clocked
-    after r = orRefused r (λ x. record { number = x; board = b }) (record { number = 0; board = boardAt b t })
-
-    go : (r : ℕ) → Clocks (after r .board) k (slotAt (after r .board) i)
-    go zero = step (decLe (finish k) t)
-    go (suc r) = stands refl
-
--- Withdrawal: it stands as it was, or it is the one that was named, it had not begun, and its slot is exactly the free slot
-pub data Withdraws (now n : ℕ) (k k′ : Task) : Type 0 where
-  stands : k′ ≡ k → Withdraws now n k k′
-  gone : k .id ≡ n → now < k .start → k′ ≡ freeSlot → Withdraws now n k k′
-
-pub withdrawn-moves-none : (b : Board) (n i : ℕ) → i < length (b .tasks) → T (live (slotAt b i)) → Withdraws (b .now) n (slotAt b i) (slotAt (withdrawn b n .board) i)
-unfolding withdrawn orRefused refusedWithdraw begunNamed named
-withdrawn-moves-none b n i h l = go (refusedWithdraw b n) refl
-  where
-    k : Task
-    k = slotAt b i
-
-    good : refusedWithdraw b n ≡ 0 → SoundBoard b
-    good e = let r1 = none-holds 1 _ _ (omega arith) e in sound-out (b .device) (b .now) (b .tasks) (not-not (soundBoard b) (r1 .0))
-
-    -- ids differ, so that the slot is the first of that id
-    first : SoundBoard b → T (named n k) → indexOf (named n) (b .tasks) ≡ i
-    first s t = order (decLt (indexOf (named n) (b .tasks)) i) (decLt i (indexOf (named n) (b .tasks)))
-      where
-        j : ℕ
-        j = indexOf (named n) (b .tasks)
-
-        inside : j < length (b .tasks)
-        inside = ltb→lt j (length (b .tasks)) (subst T (index-test (named n) (b .tasks)) (pass-some (named n) (b .tasks) (getD-in (b .tasks) i freeSlot h) t))
-
-        u : T (named n (slotAt b j))
-        u = index-passes (named n) (b .tasks) freeSlot inside
-
-        lives : (x : Task) → T (named n x) → T (live x)
-        lives x v = and-l (live x) (eqb (x .id) n) v
-
-        id-of : (x : Task) → T (named n x) → x .id ≡ n
-        id-of x v = eqb→eq (x .id) n (and-r (live x) (eqb (x .id) n) v)
-
-        order : Dec (j < i) → Dec (i < j) → j ≡ i
-        order (yes l) q = absurd (sorted-at Together live (b .tasks) freeSlot (s .together) j i l h (lives (slotAt b j) u) (lives k t) .ids (id-of (slotAt b j) u ∙ sym (id-of k t)))
-        order (no l) (yes q) = absurd (sorted-at Together live (b .tasks) freeSlot (s .together) i j q inside (lives k t) (lives (slotAt b j) u) .ids (id-of k t ∙ sym (id-of (slotAt b j) u)))
-        order (no l) (no q) = omega arith
-
-    -- not refused by 14: no live task of the id has begun
-    waits : refusedWithdraw b n ≡ 0 → T (named n k) → b .now < k .start
-    waits e t =
-        let r1 = none-holds 1 _ _ (omega arith) e in
-        let r13 = none-holds 13 _ _ (omega arith) (r1 .1) in
-        let r14 = none-holds 14 _ _ (omega arith) (r13 .1) in
-        let s = good e in
-        let m = getD-in (b .tasks) i freeSlot h in
-        phase (s .tasks k m l .phase) (λ q. T-not (begun k) (none-pass begun (b .tasks) (r14 .0) m) (and-i (named n k) (not (waitingPhase (k .phase))) t q))
-      where
-        begun : Task → Bool
-        begun x = named n x && not (waitingPhase (x .phase))
-
-        phase : InPhase (b .now) k → (T (not (waitingPhase (k .phase))) → ⊥) → b .now < k .start
-        phase (running e h) f = absurd (f (rw e tt))
-        phase (waiting e h) f = h
-
-    step : refusedWithdraw b n ≡ 0 → T (named n k) ⊎ T (not (named n k)) → Withdraws (b .now) n k (slotAt (withTasks b (withoutNamed n (b .tasks))) i)
-    step e (inr t) = stands (withdrawn-keeps n (b .tasks) i h t)
-    step e (inl t) =
-        let q = first (good e) t in
-        gone (eqb→eq (k .id) n (and-r (live k) (eqb (k .id) n) t)) (waits e t)
-        (subst (λ x. getD (withoutNamed n (b .tasks)) x freeSlot ≡ freeSlot) q (withdrawn-free n (b .tasks) (subst (λ x. x < length (b .tasks)) (sym q) h)))
-
-    after : ℕ → Withdrawn
-    after r = orRefused r (λ x. record { number = x; board = b }) (record { number = 0; board = withTasks b (withoutNamed n (b .tasks)) })
-
-    go : (r : ℕ) → refusedWithdraw b n ≡ r → Withdraws (b .now) n k (slotAt (after r .board) i)
-    go zero e = step e (bool (named n k))
-    go (suc r) e = stands refl
 
 -- A REFUSED CALL HANDS BACK THE SAME BOARD
 pub refused-submit-same : (b : Board) (n : ℕ) (a : Submission) (k : ℕ) → refusedSubmit b n a ≡ suc k → submitted b n a ≡ record { answer = Refused (suc k); board = b }

@@ -1,14 +1,13 @@
--- Booking and withdrawal over the slots: a sound board stays sound, and every other task stands where it was. Assumes nothing.
-use Prim.Native.Nat.{ℕ, _<_}
+-- Booking and withdrawal over the slots: a sound board stays sound. Assumes nothing.
+use Prim.Native.Nat.{ℕ}
 use mathlib.Core.Path.{_≡_, sym, _∙_, subst}
 use mathlib.Core.Logic.{_⊎_, inl, inr}
 use mathlib.Core.Bool.{Bool, not}
 use mathlib.Core.List.{List}
-use lib.Dec.{T, T-not, not-T}
-use lib.ListN.{length, getD}
-use Rattle.lists.specs.Lists.{_∈_, indexOf}
+use lib.Dec.{T, T-not}
+use Rattle.lists.specs.Lists.{_∈_}
 use Rattle.lists.proofs.Order.{put-in, sorted-put}
-use Rattle.lists.proofs.Append.{put-there, put-keeps, length-put}
+use Rattle.lists.proofs.Append.{length-put}
 use Rattle.tasks.specs.declared.Device.{Device}
 use Rattle.tasks.specs.declared.Task.{Task}
 use Rattle.tasks.specs.Tasks.{live, freeSlot}
@@ -65,23 +64,3 @@ module _ (D : Device) (now : ℕ) (ks : List Task) (s : Sound D now ks) where
       none : (l : Task) → (l ≡ freeSlot) ⊎ (l ∈ ks) → T (not (live l)) → l ≡ freeSlot
       none l (inl e) t = e
       none l (inr m) t = s .free l m t
-
--- NOTHING MOVES: a live task keeps its slot when another is booked
-pub booked-keeps : (k : Task) (ks : List Task) (i : ℕ) → i < length ks → T (live (getD ks i freeSlot)) → getD (withBooked k ks) i freeSlot ≡ getD ks i freeSlot
-unfolding withBooked
-booked-keeps k ks i h t = put-keeps freeTest k ks i freeSlot h (not-T (freeTest (getD ks i freeSlot)) (λ u. T-not (live (getD ks i freeSlot)) u t))
-
--- the booked task stands in the lowest free slot
-pub booked-there : (k : Task) (ks : List Task) → indexOf freeTest ks < length ks → getD (withBooked k ks) (indexOf freeTest ks) freeSlot ≡ k
-unfolding withBooked
-booked-there k ks h = put-there freeTest k ks freeSlot h
-
--- and when another is withdrawn
-pub withdrawn-keeps : (n : ℕ) (ks : List Task) (i : ℕ) → i < length ks → T (not (named n (getD ks i freeSlot))) → getD (withoutNamed n ks) i freeSlot ≡ getD ks i freeSlot
-unfolding withoutNamed
-withdrawn-keeps n ks i h t = put-keeps (named n) freeSlot ks i freeSlot h t
-
--- an ended or withdrawn slot is exactly the free slot
-pub withdrawn-free : (n : ℕ) (ks : List Task) → indexOf (named n) ks < length ks → getD (withoutNamed n ks) (indexOf (named n) ks) freeSlot ≡ freeSlot
-unfolding withoutNamed
-withdrawn-free n ks h = put-there (named n) freeSlot ks freeSlot h
