@@ -47,7 +47,7 @@ unfoldable pub commandOf : List (List ℕ) → Command
 commandOf arguments = commandFrom (record { asked = noAsked; words = [] }) 1 arguments
 
 -- no question
-unfoldable pub wrong? : Question → Bool
+abbrev pub wrong? : Question → Bool
 wrong? Wrong = true
 wrong? Horizon = false
 wrong? (Busy i) = false

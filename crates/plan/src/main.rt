@@ -8,18 +8,16 @@ fn main() {
         system::tell(b"plan: ", order.help, &page[0..size]);
         return;
     }
-    let fd = system::open(b"plan: ", order.file);
-    if fd < 0 {
+    let mut input = system::open(b"plan: ", order.file);
+    if input.failed {
         return;
     }
-    let mut input = system::input_of(fd);
     let mut piece = io::large_buffer();
     let mut text = io::large_buffer();
     let mut header = [0u8; 64];
     let size = listing::put_header(&mut header, order.words);
-    let done = system::write(b"plan: ", &header[0..size], b"");
     let mut l = listing::begin(order.words);
-    let mut turns = system::turns_left(done, u64::MAX);
+    let mut turns = system::turns_left(system::write(b"plan: ", &header[0..size], b""), u64::MAX);
     while 0 < turns {
         input = system::fill(input, b"plan: ", &mut piece);
         let from = input.from;

@@ -8,11 +8,10 @@ fn main() {
         system::tell(b"record: ", order.help, &page[0..size]);
         return;
     }
-    let fd = system::open(b"record: ", order.file);
-    if fd < 0 {
+    let mut input = system::open(b"record: ", order.file);
+    if input.failed {
         return;
     }
-    let mut input = system::input_of(fd);
     let mut piece = io::large_buffer();
     let mut held = io::large_buffer();
     let mut out = io::large_buffer();

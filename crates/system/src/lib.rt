@@ -53,23 +53,8 @@ pub fn asked(text: &mut [u8]) -> Asked {
     a
 }
 
-// The file that an argument names, standard input where it is 0; -1 where it cannot be opened, and standard error says why.
-pub fn open(program: &[u8], file: usize) -> i32 {
-    if file == 0 {
-        return STDIN_FILENO;
-    }
-    let mut path = io::buffer();
-    let n = os::arg(file, &mut path);
-    let fd = os::open_read(&path[0..n]);
-    if fd < 0 {
-        io::write_all(STDERR_FILENO, program);
-        os::fail(&path[0..n]);
-    }
-    fd
-}
-
 // Where a piece of the input stands: from `from` to `to` it is still to be taken. `more`: the input has not ended. `failed`: it
-// could not be read to its end.
+// could not be opened, or not be read to its end.
 pub struct Input {
     pub fd: i32,
     pub from: usize,
@@ -78,16 +63,33 @@ pub struct Input {
     pub failed: bool,
 }
 
-pub fn input_of(fd: i32) -> Input
+fn input_of(fd: i32) -> Input
     ensures { λ r. ⌜ (r .from ≡ 0) × (r .to ≡ 0) ⌝ }
 {
     Input {
         fd: fd,
         from: 0,
         to: 0,
-        more: true,
-        failed: false,
+        more: 0 <= fd,
+        failed: fd < 0,
     }
+}
+
+// The file that an argument names, standard input where it is 0. Where it cannot be opened, standard error says why.
+pub fn open(program: &[u8], file: usize) -> Input
+    ensures { λ r. ⌜ (r .from ≡ 0) × (r .to ≡ 0) ⌝ }
+{
+    if file == 0 {
+        return input_of(STDIN_FILENO);
+    }
+    let mut path = io::buffer();
+    let n = os::arg(file, &mut path);
+    let fd = os::open_read(&path[0..n]);
+    if fd < 0 {
+        io::write_all(STDERR_FILENO, program);
+        os::fail(&path[0..n]);
+    }
+    input_of(fd)
 }
 
 // The next piece, where the last one has been taken. A read that fails is not the end.

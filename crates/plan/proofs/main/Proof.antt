@@ -9,11 +9,11 @@ use Rattle.plan.proofs.main.Statement.{statement}
 use Rattle.plan.proofs.main.Tie as tie
 
 abbrev Inv-loop : tie.InvT-loop
-Inv-loop fd input₀ piece₀ text₀ size done l₀ turns₀ t27 t28 t29 t30 input piece text l turns =
+Inv-loop input₀ piece₀ text₀ size l₀ turns₀ t27 t28 t29 t30 input piece text l turns =
     (65536 ≡ length piece) × (65536 ≡ length text) × (input .from ≤ input .to) × (input .to ≤ 65536) × (length t27 ≡ 6) × (length t28 ≡ 6) × (length t29 ≡ 0) × (length t30 ≡ 6)
 
 abbrev μ-loop : tie.MeasureT-loop
-μ-loop fd input₀ piece₀ text₀ size done l₀ turns₀ t27 t28 t29 t30 input piece text l turns = turns
+μ-loop input₀ piece₀ text₀ size l₀ turns₀ t27 t28 t29 t30 input piece text l turns = turns
 
 -- what was fed, what was filled, and the turn
 abbrev fedOf : tie.After-pass Inv-loop μ-loop → tie.After-text2 Inv-loop μ-loop
@@ -60,9 +60,6 @@ open-requires c κs = search needs
 
 returns-2 : tie.Need-returns-2 Inv-loop μ-loop
 returns-2 c = search needs
-
-input-of-requires : tie.Need-input-of-requires Inv-loop μ-loop
-input-of-requires c κs = search needs
 
 large-buffer-requires : tie.Need-large-buffer-requires Inv-loop μ-loop
 large-buffer-requires c κs = search needs
@@ -222,17 +219,16 @@ main-spec =
     slice-aggregate-open
     open-requires
     returns-2
-    input-of-requires
     large-buffer-requires
     large-buffer-requires-2
     put-header-requires
+    begin-requires
     slice-aggregate-write
     sub-write
     part-write-start
     part-write-end
     slice-aggregate-write-2
     write-requires
-    begin-requires
     turns-left-requires
     loop-holds
     slice-aggregate-fill

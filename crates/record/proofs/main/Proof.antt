@@ -8,11 +8,11 @@ use Rattle.record.proofs.main.Statement.{statement}
 use Rattle.record.proofs.main.Tie as tie
 
 abbrev Inv-loop : tie.InvT-loop
-Inv-loop fd input₀ piece₀ held₀ out₀ err₀ r₀ turns₀ t23 t24 t25 input piece held out err r turns =
+Inv-loop input₀ piece₀ held₀ out₀ err₀ r₀ turns₀ t23 t24 t25 input piece held out err r turns =
     (65536 ≡ length piece) × (65536 ≡ length out) × (input .from ≤ input .to) × (input .to ≤ 65536) × (length t23 ≡ 8) × (length t24 ≡ 8) × (length t25 ≡ 8)
 
 abbrev μ-loop : tie.MeasureT-loop
-μ-loop fd input₀ piece₀ held₀ out₀ err₀ r₀ turns₀ t23 t24 t25 input piece held out err r turns = turns
+μ-loop input₀ piece₀ held₀ out₀ err₀ r₀ turns₀ t23 t24 t25 input piece held out err r turns = turns
 
 -- what was fed, what was filled, and the turn
 abbrev fedOf : tie.After-pass Inv-loop μ-loop → tie.After-out2 Inv-loop μ-loop
@@ -59,9 +59,6 @@ open-requires c κs = search needs
 
 returns-2 : tie.Need-returns-2 Inv-loop μ-loop
 returns-2 c = search needs
-
-input-of-requires : tie.Need-input-of-requires Inv-loop μ-loop
-input-of-requires c κs = search needs
 
 large-buffer-requires : tie.Need-large-buffer-requires Inv-loop μ-loop
 large-buffer-requires c κs = search needs
@@ -198,7 +195,6 @@ main-spec =
     slice-aggregate-open
     open-requires
     returns-2
-    input-of-requires
     large-buffer-requires
     large-buffer-requires-2
     large-buffer-requires-3
