@@ -12,11 +12,11 @@ check() {
     checks=$((checks + 1))
     [ "$2" = "$3" ] || { printf 'runs: %s\n--- wanted\n%s\n--- got\n%s\n' "$1" "$2" "$3" >&2; exit 1; }
 }
-# tell COMMAND ..: its standard output, then its standard error behind a line `!`, then its status where it is not 0
+# tell COMMAND ..: its standard output, a byte 0 shown as ~, then its standard error behind a line `!`, then its status where it is not 0
 tell() {
     local status=0
     "$@" >"$work/out" 2>"$work/err" || status=$?
-    cat "$work/out"
+    tr '\000' '~' <"$work/out"
     [ ! -s "$work/err" ] || { echo "!"; cat "$work/err"; }
     [ "$status" = 0 ] || echo "status $status"
 }
@@ -38,6 +38,21 @@ lines="$header
 4 2 0 4 0 5
 5 3 0 0 0 0"
 check "plan FILE" "$lines" "$(tell $run plan "$work/session")"
+# slowly FILE SIZE ..: FILE in pieces of these sizes and the rest, each written when the one before has long been read
+slowly() {
+    local file=$1 from=1 size
+    shift
+    for size in "$@"; do
+        tail -c +$from "$file" | head -c "$size"
+        from=$((from + size))
+        sleep 0.3
+    done
+    tail -c +$from "$file"
+}
+check "plan, slowly" "$lines" "$(slowly "$work/session" 1 3 10 20 | tell $run plan)"
+check "record, slowly" "$(od -An -tx1 "$work/session")" "$(slowly "$work/session.txt" 3 8 40 | $run record | od -An -tx1)"
+check "ask, slowly" "answer 0
+3" "$(slowly "$work/session" 1 3 10 20 | tell $run ask busy 5)"
 for size in 1 37; do
     check "plan, a pipe in pieces of $size" "$lines" "$(dd bs=$size if="$work/session" 2>/dev/null | $run plan)"
     check "record, a pipe in pieces of $size" "$(od -An -tx1 "$work/session")" "$(dd bs=$size if="$work/session.txt" 2>/dev/null | $run record | od -An -tx1)"
@@ -115,9 +130,9 @@ check "plan of it" "$header
 !
 plan: event 2 (kind 0) is of no known kind (16): the rest was not read
 status 1" "$(tell $run plan "$work/typo")"
-check "record, a missing word" "!
+check "record, a missing word" "~!
 record: line 1, word 3: the line ends: expected H, a number from 0 to 65535 (board W H); records written: 0
-status 1" "$(printf 'board 4\n' | tell $run record | tr -d '\000')"
+status 1" "$(printf 'board 4\n' | tell $run record)"
 check "record, a last line without a line feed" " 03 02 00 00 00" "$(printf 'clock 2' | $run record | od -An -tx1)"
 check "record, a byte order mark and CR LF" " 03 02 00 00 00" "$(printf '\357\273\277clock 2\r\n' | $run record | od -An -tx1)"
 
@@ -131,8 +146,20 @@ head -c 5 "$work/session" >&7
 for _ in $(seq 300); do [ "$(wc -l <"$work/live")" -ge 2 ] && break; sleep 0.1; done
 check "a slow pipe: the line comes as its record comes" "$header
 1 1 0 0 0 0" "$(cat "$work/live")"
+tail -c +6 "$work/session" >&7
 exec 7>&-
 wait
+check "a slow pipe: and all of them" "$lines" "$(cat "$work/live")"
+# a wrong line ends record, and an unknown kind plan, while the input is still open
+for program in record plan; do
+    $run $program "$work/slow" >"$work/live" 2>"$work/message" &
+    exec 7>"$work/slow"
+    echo "9" >&7
+    for _ in $(seq 300); do kill -0 $! 2>/dev/null || break; sleep 0.1; done
+    check "$program ends at what is wrong" ended "$(kill -0 $! 2>/dev/null && echo running || echo ended)"
+    exec 7>&-
+    wait || true
+done
 
 # arguments
 for program in plan record ask; do
@@ -150,5 +177,16 @@ status 1" "$(tell $run plan "$work/missing")"
 check "ask, no such file" "!
 ask: $work/missing: No such file or directory
 status 1" "$(tell $run ask --from "$work/missing" board)"
+# a folder can be opened and not read
+check "plan, a folder" "$header
+!
+plan: cannot read: Is a directory
+status 1" "$(tell $run plan "$work")"
+check "record, a folder" "~!
+record: cannot read: Is a directory
+status 1" "$(tell $run record "$work")"
+check "ask, a folder" "!
+ask: cannot read: Is a directory
+status 1" "$(tell $run ask --from "$work" board)"
 check "ask, a wrong question" "status 1" "$(tell $run ask busy x <"$work/session" | tail -n 1)"
 echo "runs: $checks checks"
