@@ -414,7 +414,7 @@ reads-tell s (feed r p more words {ls} {vs} {last} next) =
     let g = heard-goes r s p more words in
     let below = reads-tell (g .sane) next in (
       g .tells ∙ ap (told (h .lines) (h .events)) (below .0)
-          ∙ (λ i. record { lines = sym (append-assoc (h .lines) ls (restOf last [] .lines)) i; events = sym (append-assoc (h .events) vs (restOf last [] .events)) i; state = restOf last [] .state; end = restOf last [] .end }),
+          ∙ told-told (h .lines) ls (h .events) vs (restOf last []),
       below .1,
     )
 
