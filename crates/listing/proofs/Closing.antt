@@ -1,8 +1,8 @@
 -- What `listing::close` puts: the line of a 15, and the message. Assumes nothing.
 use Prim.Native.Nat.{ℕ, suc, _+_, _≤_}
 use mathlib.Core.Path.{_≡_, refl, sym, ap, _∙_, subst}
-use mathlib.Core.Bool.{Bool, true, false, cond}
-use mathlib.Core.List.{List, [], _∷_, _++_, append-nil}
+use mathlib.Core.Bool.{Bool, true, false}
+use mathlib.Core.List.{List, [], _∷_, append-nil}
 use mathlib.Core.Option.{none}
 use native.Mathlib.Nat.{zero-add}
 use native.Mathlib.Omega.{arith}
@@ -15,7 +15,6 @@ use Rattle.text.proofs.Spelling.{put-both, line-more}
 use Rattle.text.proofs.Rows.{line-rest, rows-front}
 use Rattle.answer_words.specs.AnswerWords.{answerWords}
 use Rattle.session.specs.declared.Ending.{Ending}
-use Rattle.session.specs.declared.Ending.the-variants.{NotYet, AtEnd, In15, In16, AtLast, PastLast}
 use Rattle.session.specs.Recording.{Line, stopLine}
 use Rattle.reader.specs.Reader.{endOf, lastLines}
 use Rattle.worded.specs.Worded.{rowOf, idText, wordedText}
@@ -53,24 +52,27 @@ one-worded : (l : Line) (w : Bool) → w ≡ true → wordedText l ≡ listingTe
 unfolding listingText each
 one-worded l w e = rw e (sym (append-nil (wordedText l)))
 
-pub cut-plain : (w : Bool) (n k : ℕ) {l a b m : List ℕ} {p q r : ℕ} → w ≡ false → Put l 0 (decimal (suc n)) a p → Put a p (32 ∷ []) b q
-    → Put b q (rowText (k ∷ 15 ∷ 0 ∷ 0 ∷ 0 ∷ [])) m r → Put l 0 (listingText w (stopLine (suc n) k 15 ∷ [])) m r
-unfolding rowText stopLine
-cut-plain w n k {l} {a} {b} {m} {p} {q} {r} e x y z =
-    subst (λ t. Put l 0 t m r) (one-plain (stopLine (suc n) k 15) w e)
-    (line-more (decimal (suc n)) (decimal k) (decimal 15 ∷ decimal 0 ∷ decimal 0 ∷ decimal 0 ∷ []) (put-both x y) z)
+-- its end, and what stands in front of that in both forms
+last-plain : lineText (decimal 0 ∷ []) ≡ ascii "0\n"
+unfolding lineText decimal decimalIn
+last-plain = refl
 
-ending : lineText (idText none ∷ decimal 15 ∷ answerWords 15 ∷ []) ≡ ascii "- 15 the record is cut short\n"
+last-worded : lineText (decimal 0 ∷ idText none ∷ decimal 15 ∷ answerWords 15 ∷ []) ≡ ascii "0 - 15 the record is cut short\n"
 unfolding lineText idText decimal decimalIn answerWords
-ending = refl
+last-worded = refl
 
-pub cut-worded : (w : Bool) (n k : ℕ) {l a b c m : List ℕ} {p q r s : ℕ} → w ≡ true → Put l 0 (decimal (suc n)) a p → Put a p (32 ∷ []) b q
-    → Put b q (spaced (k ∷ 15 ∷ 0 ∷ 0 ∷ 0 ∷ [])) c r → Put c r (ascii "- 15 the record is cut short\n") m s → Put l 0 (listingText w (stopLine (suc n) k 15 ∷ [])) m s
-unfolding wordedText stopLine
-cut-worded w n k {l} {a} {b} {c} {m} {p} {q} {r} {s} e x y z t =
-    subst (λ t. Put l 0 t m s) (one-worded (stopLine (suc n) k 15) w e)
-    (line-more (decimal (suc n)) (decimal k) _ (put-both x y)
-    (line-rest (k ∷ 15 ∷ 0 ∷ 0 ∷ 0 ∷ []) (idText none) (decimal 15 ∷ answerWords 15 ∷ []) z (subst (λ t. Put c r t m s) (sym ending) t)))
+module _ (w : Bool) (n k : ℕ) {l a b c m : List ℕ} {p q r s : ℕ} (x : Put l 0 (decimal (suc n)) a p) (y : Put a p (32 ∷ []) b q) (z : Put b q (spaced (k ∷ 15 ∷ 0 ∷ 0 ∷ [])) c r) where
+  with-end : (ws : List (List ℕ)) → Put c r (lineText (decimal 0 ∷ ws)) m s
+      → Put l 0 (lineText (decimal (suc n) ∷ decimal k ∷ decimal 15 ∷ decimal 0 ∷ decimal 0 ∷ decimal 0 ∷ ws)) m s
+  with-end ws t = line-more (decimal (suc n)) (decimal k) _ (put-both x y) (line-rest (k ∷ 15 ∷ 0 ∷ 0 ∷ []) (decimal 0) ws z t)
+
+  pub cut-plain : w ≡ false → Put c r (ascii "0\n") m s → Put l 0 (listingText w (stopLine (suc n) k 15 ∷ [])) m s
+  unfolding rowText stopLine
+  cut-plain e t = subst (λ u. Put l 0 u m s) (one-plain (stopLine (suc n) k 15) w e) (with-end [] (subst (λ u. Put c r u m s) (sym last-plain) t))
+
+  pub cut-worded : w ≡ true → Put c r (ascii "0 - 15 the record is cut short\n") m s → Put l 0 (listingText w (stopLine (suc n) k 15 ∷ [])) m s
+  unfolding wordedText stopLine
+  cut-worded e t = subst (λ u. Put l 0 u m s) (one-worded (stopLine (suc n) k 15) w e) (with-end _ (subst (λ u. Put c r u m s) (sym last-worded) t))
 
 -- a message
 pub stop-put : (n k : ℕ) (tail : List ℕ) {l a b c d m : List ℕ} {p q r s t : ℕ} → Put l 0 (ascii "plan: event ") a p → Put a p (decimal (suc n)) b q → Put b q (ascii " (kind ") c r

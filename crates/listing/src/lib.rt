@@ -144,12 +144,12 @@ fn put_cut(out: &mut [u8; 128], words: bool, number: u32, kind: u8) -> usize
 {
     let after = text::put_long(out, 0, number as u64 + 1);
     let from = text::put_bytes(out, after, b" ");
-    let numbers = [kind as u32, 15, 0, 0, 0];
+    let numbers = [kind as u32, 15, 0, 0];
+    let end = text::put_spaced(out, from, &numbers, 0, 4);
     if !words {
-        return text::put_words(out, from, &numbers, 0, 5);
+        return text::put_bytes(out, end, b"0\n");
     }
-    let end = text::put_spaced(out, from, &numbers, 0, 5);
-    text::put_bytes(out, end, b"- 15 the record is cut short\n")
+    text::put_bytes(out, end, b"0 - 15 the record is cut short\n")
 }
 
 // "After 15 .. it prints that line"; a 16 has had its own.

@@ -18,23 +18,6 @@ slice-aggregate-put-bytes c = search needs
 put-bytes-requires : tie.Need-put-bytes-requires
 put-bytes-requires c κs = search needs
 
-slice-aggregate-put-words : tie.Need-slice-aggregate-put-words
-slice-aggregate-put-words c = search needs
-
-put-words-requires : tie.Need-put-words-requires
-put-words-requires c κs = search needs
-
-returns : tie.Need-returns
-returns c =
-    let t = c .before .before .before in
-    let b = t .before in
-    let n = b .before .before .before in
-    let a = n .before .before .args in (
-      cut-plain (a .words) (a .number) (a .kind) (not-true _ (t .if1 .taken)) (next-number (a .number) (n .put-long .ensures .0) (n .put-long .ensures .1 .0))
-          (put-text (b .put-bytes .ensures .0) (b .put-bytes .ensures .1)) (c .put-words .ensures .0),
-      omega (arith, n .put-long .ensures .1 .1, b .put-bytes .ensures .0, c .put-words .ensures .1),
-    )
-
 slice-aggregate-put-spaced : tie.Need-slice-aggregate-put-spaced
 slice-aggregate-put-spaced c = search needs
 
@@ -47,16 +30,36 @@ slice-aggregate-put-bytes-2 c = search needs
 put-bytes-requires-2 : tie.Need-put-bytes-requires-2
 put-bytes-requires-2 c κs = search needs
 
-returns-2 : tie.Need-returns-2
-returns-2 c =
-    let p = c .before .before .before in
-    let l = p .before .before .before in
-    let b = l .before in
+returns : tie.Need-returns
+returns c =
+    let t = c .before .before .before in
+    let p = t .before in
+    let b = p .before .before .before in
     let n = b .before .before .before in
     let a = n .before .before .args in (
-      cut-worded (a .words) (a .number) (a .kind) (not-false _ (l .if1 .left)) (next-number (a .number) (n .put-long .ensures .0) (n .put-long .ensures .1 .0))
-          (put-text (b .put-bytes .ensures .0) (b .put-bytes .ensures .1)) (p .put-spaced .ensures .0) (put-text (c .put-bytes2 .ensures .0) (c .put-bytes2 .ensures .1)),
+      cut-plain (a .words) (a .number) (a .kind) (next-number (a .number) (n .put-long .ensures .0) (n .put-long .ensures .1 .0))
+          (put-text (b .put-bytes .ensures .0) (b .put-bytes .ensures .1)) (p .put-spaced .ensures .0) (not-true _ (t .if1 .taken))
+          (put-text (c .put-bytes2 .ensures .0) (c .put-bytes2 .ensures .1)),
       omega (arith, n .put-long .ensures .1 .1, b .put-bytes .ensures .0, p .put-spaced .ensures .1, c .put-bytes2 .ensures .0),
+    )
+
+slice-aggregate-put-bytes-3 : tie.Need-slice-aggregate-put-bytes-3
+slice-aggregate-put-bytes-3 c = search needs
+
+put-bytes-requires-3 : tie.Need-put-bytes-requires-3
+put-bytes-requires-3 c κs = search needs
+
+returns-2 : tie.Need-returns-2
+returns-2 c =
+    let t = c .before .before .before in
+    let p = t .before in
+    let b = p .before .before .before in
+    let n = b .before .before .before in
+    let a = n .before .before .args in (
+      cut-worded (a .words) (a .number) (a .kind) (next-number (a .number) (n .put-long .ensures .0) (n .put-long .ensures .1 .0))
+          (put-text (b .put-bytes .ensures .0) (b .put-bytes .ensures .1)) (p .put-spaced .ensures .0) (not-false _ (t .if1 .left))
+          (put-text (c .put-bytes3 .ensures .0) (c .put-bytes3 .ensures .1)),
+      omega (arith, n .put-long .ensures .1 .1, b .put-bytes .ensures .0, p .put-spaced .ensures .1, c .put-bytes3 .ensures .0),
     )
 
 pub put-cut-spec : {M : Type 1} → statement M
@@ -67,11 +70,11 @@ put-cut-spec =
     put-long-requires
     slice-aggregate-put-bytes
     put-bytes-requires
-    slice-aggregate-put-words
-    put-words-requires
-    returns
     slice-aggregate-put-spaced
     put-spaced-requires
     slice-aggregate-put-bytes-2
     put-bytes-requires-2
+    returns
+    slice-aggregate-put-bytes-3
+    put-bytes-requires-3
     returns-2)
