@@ -103,3 +103,33 @@ askUsage = ascii "usage: ask [--from FILE] horizon | busy T | openings W H E D [
 
 abbrev pub askManual : Bool → List ℕ
 askManual help = cond help askHelp askUsage
+
+-- `summary --help`: "what it reads, what it writes, an example, the answer numbers in words"
+abbrev pub summaryHead : List ℕ
+summaryHead =
+    ascii "summary [--add] [FILE ..]\n"
+    ++ ascii "\n"
+    ++ ascii "Reads event records, each FILE a recording of its own, or one from standard input, and\n"
+    ++ ascii "writes for each planner and laxity class how many tasks were submitted, taken, rejected\n"
+    ++ ascii "(10) and refused (9), the ticks waited (start less arrival) of those taken, and taken\n"
+    ++ ascii "of submitted. Laxity is d - e - arrival: A is 1 to 50, B 51 to 100, C 101 to 200, Other\n"
+    ++ ascii "the rest. Submissions refused otherwise are in one line without class. The last line\n"
+    ++ ascii "has the events answered and the files read, and where it stopped: end, limit (after\n"
+    ++ ascii "1000000000 events), or 15 or 16 with the file, the event's number and the kind byte.\n"
+    ++ ascii "\n"
+    ++ ascii "  --add    reads summaries that end in `stop end`, one or more in each FILE or from\n"
+    ++ ascii "           standard input, and writes their sum\n"
+    ++ ascii "  --help   writes this\n"
+    ++ ascii "\n"
+    ++ ascii "example: ./run record tests/listing/listing.txt | ./run summary\n"
+    ++ ascii "\n"
+
+unfoldable pub summaryHelp : List ℕ
+summaryHelp = summaryHead ++ answersText
+
+-- "a stray argument is refused with the usage"
+unfoldable pub summaryUsage : List ℕ
+summaryUsage = ascii "usage: summary [--add] [FILE ..]; summary --help says more\n"
+
+abbrev pub summaryManual : Bool → List ℕ
+summaryManual help = cond help summaryHelp summaryUsage

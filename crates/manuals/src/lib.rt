@@ -5,7 +5,7 @@ ghost use Prim.Native.Nat.{_+_, _≤_};
 ghost use lib.ListN.{length};
 ghost use Rattle.lists.specs.Lists.{overFront};
 ghost use Rattle.text.specs.Digits.{Put};
-ghost use Rattle.manuals.specs.Manuals.{answersText, planManual, recordManual, askManual};
+ghost use Rattle.manuals.specs.Manuals.{answersText, planManual, recordManual, askManual, summaryManual};
 
 // The answer numbers in words from a place on; the place after them.
 fn put_answers(out: &mut [u8], at: usize) -> usize
@@ -75,6 +75,27 @@ pub fn put_ask(out: &mut [u8; 4096], help: bool) -> usize
         out,
         0,
         b"ask [--from FILE] QUESTION\n\nReads event records from FILE, or from standard input, and answers a question about\nthe board as it stands then. The first line is `answer N`; rows follow only if N is 0.\n\n  horizon                                     rows: first last release\n  busy T                                      a row: the columns held at T\n  openings W H E D [START COLUMN [MOST]]      rows: start column, after the pair\n                                              (0 0), at most MOST (1000); then more or end\n  board                                       a row W H now, then a row for each live task:\n                                              slot id w h e d column start finish phase\n  stamp T                                     as board, the phases as they are at T\n\n  --help   writes this\n\nexample: ./run record tests/listing/listing.txt | ./run ask openings 1 1 2 9\n\n",
+    );
+    put_answers(out, at)
+}
+
+// `summary --help`, or its usage, at the front of the buffer; how many bytes it takes.
+pub fn put_summary(out: &mut [u8; 4096], help: bool) -> usize
+    ensures { λ r. ⌜ r ≡ length (summaryManual help) ⌝ }
+    ensures { λ r. ⌜ now (out .exit) ≡ overFront (summaryManual help) (now (out .entry)) ⌝ }
+    ensures { λ r. ⌜ r ≤ length (now (out .exit)) ⌝ }
+{
+    if !help {
+        return text::put_bytes(
+            out,
+            0,
+            b"usage: summary [--add] [FILE ..]; summary --help says more\n",
+        );
+    }
+    let at = text::put_bytes(
+        out,
+        0,
+        b"summary [--add] [FILE ..]\n\nReads event records, each FILE a recording of its own, or one from standard input, and\nwrites for each planner and laxity class how many tasks were submitted, taken, rejected\n(10) and refused (9), the ticks waited (start less arrival) of those taken, and taken\nof submitted. Laxity is d - e - arrival: A is 1 to 50, B 51 to 100, C 101 to 200, Other\nthe rest. Submissions refused otherwise are in one line without class. The last line\nhas the events answered and the files read, and where it stopped: end, limit (after\n1000000000 events), or 15 or 16 with the file, the event's number and the kind byte.\n\n  --add    reads summaries that end in `stop end`, one or more in each FILE or from\n           standard input, and writes their sum\n  --help   writes this\n\nexample: ./run record tests/listing/listing.txt | ./run summary\n\n",
     );
     put_answers(out, at)
 }

@@ -22,7 +22,7 @@ pub fn no_order() -> Order
 }
 
 // An empty argument, and one that begins with -, names no file.
-fn is_option(argument: &[u8]) -> bool
+pub fn is_option(argument: &[u8]) -> bool
     ensures { λ r. ⌜ r ≡ option (now (argument .entry)) ⌝ }
 {
     if argument.len() == 0 {

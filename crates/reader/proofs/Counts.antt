@@ -13,7 +13,7 @@ use Rattle.reader.proofs.Cases.{over-by, heard-by}
 use Rattle.reader.proofs.Cuts.{Reads, done, feed}
 
 -- so many events more
-abbrev Counts : Reader → Heard → Type 0
+abbrev pub Counts : Reader → Heard → Type 0
 Counts r h = h .reader .number ≡ r .number + length (h .events)
 
 over-counts : (r : Reader) (kept : ℕ) (bytes : List ℕ) (words : ℕ) → Counts r (heardOver r kept bytes words)
@@ -25,7 +25,7 @@ over-counts r kept bytes words = over-by (Counts r) r kept bytes words (λ q. ev
     even : r .number + length (run .lines) ≡ r .number + length (run .events)
     even = ap (λ m. r .number + m) (run-events (roomFor words (r .number)) (r .state) (r .number) bytes)
 
-heard-counts : (r : Reader) (p : List ℕ) (words : ℕ) → Counts r (heard r p words)
+pub heard-counts : (r : Reader) (p : List ℕ) (words : ℕ) → Counts r (heard r p words)
 heard-counts r p words =
     heard-by (Counts r) r p words (λ o q. over-counts r 0 p words)
     (λ o q. over-counts r (length (heldOf r)) (take 18 (heldOf r ++ p)) (min words 6)) (λ c. let y : r .number ≡ r .number + 0 = omega arith in y)

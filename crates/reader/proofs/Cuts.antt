@@ -418,7 +418,7 @@ reads-tell s (feed r p more words {ls} {vs} {last} next) =
       below .1,
     )
 
-first-sane : Sane firstReader
+pub first-sane : Sane firstReader
 unfolding firstReader open?
 first-sane = record {
   held = refl;

@@ -4,6 +4,7 @@ ghost use mathlib.Core.Path.{_≡_};
 ghost use Prim.Native.Nat.{_+_, _≤_, _<_};
 ghost use lib.ListN.{length};
 use arguments::Asked;
+use batches::Batch;
 use libc::STDERR_FILENO;
 use libc::STDIN_FILENO;
 use libc::STDOUT_FILENO;
@@ -51,6 +52,67 @@ pub fn asked(text: &mut [u8]) -> Asked {
         i += 1;
     }
     a
+}
+
+// One argument of `summary` more.
+fn batched_more(b: Batch, i: usize) -> Batch {
+    let mut argument = io::buffer();
+    let n = os::arg(i, &mut argument);
+    if os::errno() != 0 {
+        return batches::refuse(b);
+    }
+    batches::take(b, &argument[0..n])
+}
+
+// What the arguments of `summary` tell.
+pub fn batched() -> Batch {
+    let count = os::arg_count();
+    let mut b = batches::no_batch();
+    let mut i: usize = 1;
+    while i < count {
+        b = batched_more(b, i);
+        i += 1;
+    }
+    b
+}
+
+// How many arguments there are, the program's own name among them.
+pub fn arguments() -> usize {
+    os::arg_count()
+}
+
+// The argument after one.
+pub fn after(file: usize) -> usize {
+    if file < usize::MAX { file + 1 } else { file }
+}
+
+// The name of a file, `-` for standard input.
+pub struct Name {
+    pub bytes: [u8; 4096],
+    pub size: usize,
+}
+
+// The name that an argument names a file by, of no byte where it names none; standard input's for 0.
+pub fn name_of(file: usize) -> Name
+    ensures { λ r. ⌜ (r .size ≤ 4096) × (length (r .bytes) ≡ 4096) ⌝ }
+{
+    let mut bytes = io::buffer();
+    if file == 0 {
+        bytes[0] = b'-';
+        return Name {
+            bytes: bytes,
+            size: 1,
+        };
+    }
+    let n = os::arg(file, &mut bytes);
+    let mut size = n;
+    if orders::is_option(&bytes[0..n]) {
+        size = 0;
+    }
+    Name {
+        bytes: bytes,
+        size: size,
+    }
 }
 
 // Where a piece of the input stands: from `from` to `to` it is still to be taken. `more`: the input has not ended. `failed`: it
@@ -128,6 +190,11 @@ pub fn pass(input: Input, taken: usize) -> Input
     }
 }
 
+// The input is read no more. (Hundreds of files may follow.)
+pub fn shut(input: Input) {
+    libc::close(input.fd);
+}
+
 // Writes to standard output and standard error; where that fails, standard error says so, and there is nothing to go on with.
 pub fn write(program: &[u8], out: &[u8], err: &[u8]) -> bool {
     let done = io::write_all(STDOUT_FILENO, out) & io::write_all(STDERR_FILENO, err);
@@ -152,4 +219,67 @@ pub fn turns_left(more: bool, turns: u64) -> u64
     ensures { λ r. ⌜ r < turns ⌝ }
 {
     if more { turns - 1 } else { 0 }
+}
+
+// When standard error was last told how far it is: by the quarter of a second of the processor's time. Only a terminal is told.
+pub struct Pace {
+    pub shows: bool,
+    pub due: bool,
+    pub quarter: i64,
+}
+
+pub fn first_pace() -> Pace {
+    Pace {
+        shows: libc::isatty(STDERR_FILENO) == 1,
+        due: false,
+        quarter: 0,
+    }
+}
+
+// Whether a quarter of a second has passed: 2^18 microseconds.
+pub fn tick(p: Pace) -> Pace {
+    if !p.shows {
+        return p;
+    }
+    let quarter = libc::clock() >> 18;
+    Pace {
+        shows: true,
+        due: quarter != p.quarter,
+        quarter: quarter,
+    }
+}
+
+// What `summary` says before a message about a file: `summary: FILE: `.
+pub struct Label {
+    pub bytes: [u8; 8192],
+    pub size: usize,
+}
+
+pub fn label_of(program: &[u8], name: Name) -> Label
+    requires { ⌜ (length (now program) ≤ 16) × (name .size ≤ 4096) ⌝ }
+    ensures { λ r. ⌜ r .size ≤ 8192 ⌝ }
+{
+    let mut label = no_page();
+    let bytes = name.bytes;
+    let size = name.size;
+    let name_at = text::put_bytes(&mut label, 0, program);
+    let after = text::put_bytes(&mut label, name_at, &bytes[0..size]);
+    let end = text::put_bytes(&mut label, after, b": ");
+    Label {
+        bytes: label,
+        size: end,
+    }
+}
+
+// Room for a summary, or for what is said of a file.
+pub fn no_page() -> [u8; 8192]
+    ensures { λ r. ⌜ 8192 ≡ length r ⌝ }
+{
+    [0; 8192]
+}
+
+// Tells standard error how far it is, in place of what it was told before.
+pub fn show(text: &[u8]) {
+    io::write_all(STDERR_FILENO, &[13, 27, b'[', b'K']);
+    io::write_all(STDERR_FILENO, text);
 }

@@ -1,0 +1,9 @@
+pub mod Numbers
+pub mod Whole
+pub mod Judging
+pub mod Feeding
+pub mod Sums
+pub mod Taken
+pub mod Back
+pub mod Room
+pub mod Given

@@ -1,0 +1,18 @@
+-- `laxity::class_of` meets its contract. Assumes nothing.
+use Rattle.laxity.proofs.class_of.Statement.{statement}
+use Rattle.laxity.proofs.class_of.Tie as tie
+
+returns : tie.Need-returns
+returns c = rw (c .if1 .taken)
+
+returns-2 : tie.Need-returns-2
+returns-2 c = rw (c .before .if1 .left, c .if2 .taken)
+
+returns-3 : tie.Need-returns-3
+returns-3 c = rw (c .before .before .if1 .left, c .before .if2 .left, c .if3 .taken)
+
+returns-4 : tie.Need-returns-4
+returns-4 c = rw (c .before .before .if1 .left, c .before .if2 .left, c .if3 .left)
+
+pub class-of-spec : {M : Type 1} → statement M
+class-of-spec = tie.close (tie.spec returns returns-2 returns-3 returns-4)

@@ -1,0 +1,4 @@
+pub mod Trials
+pub mod Feeding
+pub mod Events
+pub mod Whole
