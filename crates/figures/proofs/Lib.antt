@@ -2,3 +2,4 @@ pub mod Counting
 pub mod Laws
 pub mod Tallying
 pub mod Rows
+pub mod Once

@@ -17,18 +17,15 @@ pub fn measure(arrival: u32, e: u32, d: u32) -> u32
     left - arrival
 }
 
-// A, B, C and Other as 0 to 3.
+// A, B, C and Other as 0 to 3: how many of the classes it is past, without a branch, which a processor would guess wrong.
 pub fn class_of(laxity: u32) -> u8
     ensures { λ r. ⌜ r ≡ classOf laxity ⌝ }
 {
-    if (1 <= laxity) & (laxity <= 50) {
-        return 0;
+    let past_a = lists::one_if(51 <= laxity);
+    let past_b = lists::one_if(101 <= laxity);
+    let past_c = lists::one_if(201 <= laxity);
+    if laxity == 0 {
+        return 3;
     }
-    if (51 <= laxity) & (laxity <= 100) {
-        return 1;
-    }
-    if (101 <= laxity) & (laxity <= 200) {
-        return 2;
-    }
-    3
+    (past_a + past_b + past_c) as u8
 }
