@@ -1,6 +1,7 @@
 //! second: the independent second program. It reads event records on standard input and prints what `plan` has to print by
-//! document 01, so that the two can be compared byte for byte (`compare.sh`). Written from document 01 alone; the rules
-//! stand in `model.rs`. Build: `rustc -O --edition 2021 tests/compare/second.rs -o second` (std only).
+//! document 01, so that the two can be compared byte for byte (`compare.sh`). Written from document 01 alone, the summary from
+//! request Q-1 of document 02; the rules stand in `model.rs`. Build: `rustc -O --edition 2021 tests/compare/second.rs -o second`
+//! (std only).
 //!
 //!     second [--check] [--counts]              the lines of `plan`
 //!     second horizon                           these five read the records in silence, then answer about the board as it
@@ -9,21 +10,30 @@
 //!                                              then `more` or `end`
 //!     second board                             row `W H now`, then `slot id w h e d column start finish phase` by slot
 //!     second stamp T                           as board, with the phases at T
-//!     second --self-test                       the listing and the cases 1 to 12 of document 01; ends with 1 if one fails
+//!     second summary [FILE ..]                 Q-1: the figures over all files, each a recording of its own (standard input
+//!                                              as one recording where no file is named)
+//!     second summary --add [FILE ..]           the sum of summaries that end in `stop end`, one or more in each file
+//!     second --self-test                       the listing and the cases 1 to 12 of document 01, and summaries; ends with 1
+//!                                              if one fails
 //!
 //! --check   after each event: the board is sound by the whole definition, no live task has moved, and a submission is
 //!           answered the same by the lists and, where the window is small, square by square. Ends with 3 if not.
 //! --counts  on standard error: how often each answer came, by kind and planner, and how many placements tell right
 //!           methods from slips.
-//! --limit N stops after N events instead of 1,000,000,000 (to try the stop itself).
+//! --limit N stops after N events instead of 1,000,000,000 (to try the stop itself); stands before `summary` too.
 //!
 //! A recording that ends with 15 or 16 is not answered by the five questions: a message on standard error names the event, and
-//! nothing is printed. So with a wrong question, and its records are not read.
+//! nothing is printed. So with a wrong question, and its records are not read. A summary that stops at 15, 16 or the limit is
+//! printed, and a message on standard error says so too. A file that cannot be opened or read, or a text under --add that is
+//! not what a summary prints, is named on standard error, and nothing is printed. A file behind the stop is not opened.
 
 mod model;
 
 use model::{body_length, Answer, Ask, Board, Event, Telling};
+use std::ffi::OsString;
+use std::fs::File;
 use std::io::{self, ErrorKind, Read, Write};
+use std::os::unix::ffi::OsStrExt;
 use std::process::exit;
 
 const MOST_EVENTS: u64 = 1_000_000_000;
@@ -39,14 +49,16 @@ enum Next {
 /// Records out of a stream, whatever the pieces in which its bytes arrive.
 struct Records<R: Read> {
     from: R,
+    /// what it is called if it cannot be read
+    name: String,
     bytes: Vec<u8>,
     at: usize,
     filled: usize,
 }
 
 impl<R: Read> Records<R> {
-    fn new(from: R) -> Self {
-        Records { from, bytes: vec![0; 1 << 16], at: 0, filled: 0 }
+    fn new(from: R, name: &str) -> Self {
+        Records { from, name: name.to_string(), bytes: vec![0; 1 << 16], at: 0, filled: 0 }
     }
 
     /// Tries to have `want` bytes at hand. `idle` is called before the stream is asked for more.
@@ -60,7 +72,7 @@ impl<R: Read> Records<R> {
                 Ok(0) => return false,
                 Ok(n) => self.filled += n,
                 Err(e) if e.kind() == ErrorKind::Interrupted => {}
-                Err(e) => stop(&format!("standard input: {e}")),
+                Err(e) => stop(&format!("{}: {e}", self.name)),
             }
         }
         true
@@ -162,7 +174,7 @@ struct Options {
 
 /// Runs a recording from the board of zeros; each answer goes to `line` (number, kind, answer). Gives the board it ends with.
 fn run<R: Read>(from: R, options: &Options, counts: &mut Counts, line: &mut dyn FnMut(u64, u8, &Answer), idle: &mut dyn FnMut()) -> Board {
-    let mut records = Records::new(from);
+    let mut records = Records::new(from, "standard input");
     let mut board = Board::zeros();
     let nothing = |number| Answer { number, column: 0, start: 0, finish: 0 };
     for number in 1..=options.limit {
@@ -376,23 +388,32 @@ fn number(word: &str, what: &str, most: u64) -> u64 {
 
 const USAGE: &str = "usage: second [--check] [--counts] [--limit N] <records
        second [--check] horizon | busy T | openings W H E D [START COLUMN [MOST]] | board | stamp T <records
+       second [--check] [--limit N] summary [FILE ..]      (no file: <records)
+       second summary --add [FILE ..]                      (no file: <summaries)
        second --self-test";
 
 fn main() {
     let mut options = Options { check: false, counts: false, limit: MOST_EVENTS };
-    let mut words: Vec<String> = std::env::args().skip(1).collect();
+    // file names may be any bytes; the rest are words
+    let mut words: Vec<OsString> = std::env::args_os().skip(1).collect();
     let (wide, short) = (u32::MAX as u64, u16::MAX as u64);
-    while words.first().is_some_and(|w| w.starts_with("--")) {
+    while words.first().is_some_and(|w| w.as_bytes().starts_with(b"--")) {
         let option = words.remove(0);
-        match option.as_str() {
-            "--check" => options.check = true,
-            "--counts" => options.counts = true,
-            "--limit" if !words.is_empty() => options.limit = number(&words.remove(0), "the limit", MOST_EVENTS),
-            "--self-test" => exit(self_test()),
+        match option.to_str() {
+            Some("--check") => options.check = true,
+            Some("--counts") => options.counts = true,
+            Some("--limit") if !words.is_empty() => options.limit = number(&words.remove(0).to_string_lossy(), "the limit", MOST_EVENTS),
+            Some("--self-test") => exit(self_test()),
             _ => stop(USAGE),
         }
     }
-    let words: Vec<&str> = words.iter().map(|w| w.as_str()).collect();
+    if words.first().is_some_and(|w| w == "summary") {
+        return match words.get(1) {
+            Some(w) if w == "--add" => add_summaries(&words[2..]),
+            _ => summary(&words[1..], &options),
+        };
+    }
+    let words: Vec<&str> = words.iter().map(|w| w.to_str().unwrap_or_else(|| stop(USAGE))).collect();
     let question = match words[..] {
         [] => return plan(&options),
         ["horizon"] => Question::Horizon,
@@ -417,6 +438,220 @@ fn main() {
         stop(&format!("event {event} (kind {kind}) is {what} ({number}): not answered"));
     }
     send(&mut told(&board, &question).into_bytes());
+}
+
+// ---- the summary of Q-1 ------------------------------------------------------------------------------------------------
+
+const PLANNERS: [&str; 4] = ["reference", "horizon", "stuffing", "full"];
+const CLASSES: [&str; 4] = ["A", "B", "C", "Other"];
+
+/// The class of a laxity, by its place in CLASSES.
+fn class(laxity: u64) -> usize {
+    match laxity {
+        1..=50 => 0,
+        51..=100 => 1,
+        101..=200 => 2,
+        _ => 3,
+    }
+}
+
+/// Of one planner and class; submitted is the sum of the first three.
+#[derive(Clone, Copy, Default)]
+struct Cell {
+    taken: u64,
+    rejected: u64,
+    refused: u64,
+    waited: u64,
+}
+
+impl Cell {
+    fn submitted(&self) -> u128 {
+        self.taken as u128 + self.rejected as u128 + self.refused as u128
+    }
+}
+
+#[derive(Clone, Copy, Default)]
+struct Figures {
+    cells: [[Cell; 4]; 4],
+    without_class: u64,
+    events: u64,
+    files: u64,
+}
+
+/// A submission and its answer, as the events have them.
+struct Submission {
+    planner: u64,
+    e: u64,
+    d: u64,
+    arrival: u64,
+    answer: u64,
+    start: u64,
+}
+
+/// Lines of a summary: the header, sixteen rows, the refused without class, the end.
+const SUMMARY_LINES: usize = 1 + 16 + 1 + 1;
+
+impl Figures {
+    fn count(&mut self, s: &Submission) {
+        if let 1 | 3..=8 = s.answer {
+            self.without_class += 1;
+            return;
+        }
+        // 3 and 8 were not the answer: the planner is one of the four, and d - e - arrival is not below 0
+        let cell = &mut self.cells[s.planner as usize][class(s.d - s.e - s.arrival)];
+        match s.answer {
+            0 => {
+                cell.taken += 1;
+                cell.waited += s.start - s.arrival;
+            }
+            9 => cell.refused += 1,
+            10 => cell.rejected += 1,
+            n => unreachable!("{n} is no answer to a submission"),
+        }
+    }
+
+    /// The line of that number, from 0, with its newline; the last one with what follows `stop`.
+    fn line(&self, at: usize, end: &[u8]) -> Vec<u8> {
+        let text = match at {
+            0 => "planner class submitted taken rejected refused waited taken/submitted".to_string(),
+            1..=16 => {
+                let (p, c) = ((at - 1) / 4, (at - 1) % 4);
+                let cell = self.cells[p][c];
+                let submitted = cell.submitted();
+                format!("{} {} {submitted} {} {} {} {} {}/{submitted}", PLANNERS[p], CLASSES[c], cell.taken, cell.rejected, cell.refused, cell.waited, cell.taken)
+            }
+            17 => format!("refused without class {}", self.without_class),
+            _ => format!("events {} files {} stop ", self.events, self.files),
+        };
+        let mut line = text.into_bytes();
+        if at + 1 == SUMMARY_LINES {
+            line.extend_from_slice(end);
+        }
+        line.push(b'\n');
+        line
+    }
+
+    fn print(&self, end: &[u8]) -> Vec<u8> {
+        (0..SUMMARY_LINES).flat_map(|at| self.line(at, end)).collect()
+    }
+}
+
+/// The figures of recordings, each with its name, and what stands behind `stop`. The next one is asked for (opened) when the
+/// one before has ended.
+fn summarize<R: Read>(recordings: &mut dyn Iterator<Item = (Vec<u8>, R)>, options: &Options) -> (Figures, Vec<u8>) {
+    let mut figures = Figures::default();
+    let limit = b"limit".to_vec();
+    if options.limit == 0 {
+        return (figures, limit);
+    }
+    for (name, from) in recordings {
+        figures.files += 1;
+        let mut records = Records::new(from, &String::from_utf8_lossy(&name));
+        let mut board = Board::zeros();
+        let halt = |number: u64, event: u64, kind: u8| [format!("{number} ").as_bytes(), &name, format!(" {event} {kind}").as_bytes()].concat();
+        for number in 1.. {
+            match records.next(&mut || {}) {
+                Next::End => break,
+                Next::CutShort(kind) => return (figures, halt(15, number, kind)),
+                Next::Unknown(kind) => return (figures, halt(16, number, kind)),
+                Next::Event(event) => {
+                    let arrival = board.now;
+                    let before = if options.check { Some(board.clone()) } else { None };
+                    let answer = board.apply(&event);
+                    if let Some(before) = before {
+                        if let Some(fault) = check(&before, &event, &answer, &board) {
+                            eprintln!("second: check failed in {} at event {number} ({event:?}, answer {answer:?}): {fault}", records.name);
+                            exit(3);
+                        }
+                    }
+                    if let Event::Submit { planner, ask } = event {
+                        figures.count(&Submission { planner, e: ask.e, d: ask.d, arrival, answer: answer.number, start: answer.start });
+                    }
+                    figures.events += 1;
+                    if figures.events == options.limit {
+                        return (figures, limit);
+                    }
+                }
+            }
+        }
+    }
+    (figures, b"end".to_vec())
+}
+
+fn open(name: &OsString) -> File {
+    File::open(name).unwrap_or_else(|e| stop(&format!("{}: {e}", name.to_string_lossy())))
+}
+
+fn summary(files: &[OsString], options: &Options) {
+    let (figures, end) = if files.is_empty() {
+        summarize(&mut std::iter::once((b"-".to_vec(), io::stdin().lock())), options)
+    } else {
+        summarize(&mut files.iter().map(|f| (f.as_bytes().to_vec(), open(f))), options)
+    };
+    send(&mut figures.print(&end));
+    if end != b"end" {
+        eprintln!("second: the summary stops before the end: {}", String::from_utf8_lossy(&end));
+    }
+}
+
+/// Adds every summary of the text. A line is read loosely, word by word, and then has to be what the figures read from it
+/// print, so that nothing but a printed summary passes. The mistake is the number of the line, from 1, and what is wrong.
+fn add_text(sum: &mut Figures, text: &[u8]) -> Result<(), (usize, &'static str)> {
+    let lines: Vec<&[u8]> = text.split_inclusive(|b| *b == b'\n').collect();
+    let mut one = Figures::default();
+    for (i, line) in lines.iter().enumerate() {
+        let at = i % SUMMARY_LINES;
+        let loose = String::from_utf8_lossy(line);
+        let words: Vec<&str> = loose.split_whitespace().collect();
+        let figure = |at: usize| words.get(at).and_then(|w| w.parse::<u64>().ok()).unwrap_or(0);
+        match at {
+            0 => one = Figures::default(),
+            1..=16 => one.cells[(at - 1) / 4][(at - 1) % 4] = Cell { taken: figure(3), rejected: figure(4), refused: figure(5), waited: figure(6) },
+            17 => one.without_class = figure(3),
+            _ => (one.events, one.files) = (figure(1), figure(3)),
+        }
+        if one.line(at, b"end") != *line {
+            return Err((i + 1, "not what a summary that ends in `stop end` prints here"));
+        }
+        let plus = |a: &mut u64, b: u64| a.checked_add(b).map(|s| *a = s).is_some();
+        let fits = match at {
+            0 => true,
+            1..=16 => {
+                let (from, to) = (one.cells[(at - 1) / 4][(at - 1) % 4], &mut sum.cells[(at - 1) / 4][(at - 1) % 4]);
+                let parts = plus(&mut to.taken, from.taken) && plus(&mut to.rejected, from.rejected) && plus(&mut to.refused, from.refused);
+                parts && plus(&mut to.waited, from.waited) && from.submitted() <= u64::MAX as u128 && to.submitted() <= u64::MAX as u128
+            }
+            17 => plus(&mut sum.without_class, one.without_class),
+            _ => plus(&mut sum.events, one.events) && plus(&mut sum.files, one.files),
+        };
+        if !fits {
+            return Err((i + 1, "the sum does not fit in 64 bits"));
+        }
+    }
+    if lines.is_empty() || lines.len() % SUMMARY_LINES != 0 {
+        return Err((lines.len() + 1, "ends before a summary does"));
+    }
+    Ok(())
+}
+
+fn add_summaries(files: &[OsString]) {
+    let mut sum = Figures::default();
+    let mut add = |name: &str, from: &mut dyn Read| {
+        let mut text = Vec::new();
+        if let Err(e) = from.read_to_end(&mut text) {
+            stop(&format!("{name}: {e}"));
+        }
+        if let Err((line, fault)) = add_text(&mut sum, &text) {
+            stop(&format!("{name}, line {line}: {fault}"));
+        }
+    };
+    if files.is_empty() {
+        add("standard input", &mut io::stdin().lock());
+    }
+    for f in files {
+        add(&f.to_string_lossy(), &mut open(f));
+    }
+    send(&mut sum.print(b"end"));
 }
 
 // ---- self-test: the listing and the cases of document 01 -------------------------------------------------------------
@@ -692,8 +927,134 @@ fn self_test() -> i32 {
         same("limit", String::from_utf8(out).unwrap(), &format!("event kind answer column start finish\n{want}"));
     }
 
+    // the summary of Q-1: rows without their names and ratio, by planner and class
+    let figures = |files: &[Vec<u8>], limit: u64| {
+        let options = Options { check: true, counts: false, limit };
+        let (figures, end) = summarize(&mut files.iter().enumerate().map(|(i, f)| (format!("f{}", i + 1).into_bytes(), &f[..])), &options);
+        String::from_utf8(figures.print(&end)).unwrap()
+    };
+    let rows = |text: &str| -> Vec<String> {
+        // those in which anything is counted, and the two lines behind the rows
+        text.lines().skip(1).filter(|l| !l.ends_with(" 0 0 0 0 0 0/0")).map(|l| l.to_string()).collect()
+    };
+    let one = |events: &[Event]| rows(&figures(&[recorded(events)], MOST_EVENTS)).join(",");
+    let nothing = "planner class submitted taken rejected refused waited taken/submitted
+reference A 0 0 0 0 0 0/0
+reference B 0 0 0 0 0 0/0
+reference C 0 0 0 0 0 0/0
+reference Other 0 0 0 0 0 0/0
+horizon A 0 0 0 0 0 0/0
+horizon B 0 0 0 0 0 0/0
+horizon C 0 0 0 0 0 0/0
+horizon Other 0 0 0 0 0 0/0
+stuffing A 0 0 0 0 0 0/0
+stuffing B 0 0 0 0 0 0/0
+stuffing C 0 0 0 0 0 0/0
+stuffing Other 0 0 0 0 0 0/0
+full A 0 0 0 0 0 0/0
+full B 0 0 0 0 0 0/0
+full C 0 0 0 0 0 0/0
+full Other 0 0 0 0 0 0/0
+refused without class 0
+events 0 files 1 stop end
+";
+    same("summary of no event", figures(&[vec![]], MOST_EVENTS), nothing);
+    let want_listing = nothing
+        .replace("stuffing A 0 0 0 0 0 0/0", "stuffing A 2 2 0 0 2 2/2")
+        .replace("stuffing Other 0 0 0 0 0 0/0", "stuffing Other 1 0 1 0 0 0/1")
+        .replace("full Other 0 0 0 0 0 0/0", "full Other 1 1 0 0 0 1/1")
+        .replace("events 0", "events 7");
+    same("summary of the listing", figures(&[bytes.clone()], MOST_EVENTS), &want_listing);
+    for (planner, want) in [(REFERENCE, "reference A 7 3 4 0 0 3/7"), (HORIZON, "horizon A 7 7 0 0 36 7/7"), (STUFFING, "stuffing A 7 7 0 0 26 7/7"), (FULL, "full A 7 7 0 0 26 7/7")] {
+        same("summary of Table 1", one(&table_1(planner, planner, 20)), &format!("{want},refused without class 0,events 11 files 1 stop end"));
+    }
+    let table = recorded(&table_1(HORIZON, HORIZON, 20));
+    same("summary of two files", rows(&figures(&[table.clone(), table.clone()], MOST_EVENTS)).join(","), "horizon A 14 14 0 0 72 14/14,refused without class 0,events 22 files 2 stop end");
+    same("each file begins with the board of zeros", rows(&figures(&[table.clone(), recorded(&[submit(FULL, 99, 1, 1, 30)])], MOST_EVENTS)).join(","), "horizon A 7 7 0 0 36 7/7,refused without class 1,events 12 files 2 stop end");
+    // laxities at the edges of the classes, at now 0 and later
+    for now in [0, 1_000_000] {
+        for (laxity, want) in [(0, "Other"), (1, "A"), (50, "A"), (51, "B"), (100, "B"), (101, "C"), (200, "C"), (201, "Other"), (900_000_000, "Other")] {
+            for (planner, name) in PLANNERS.iter().enumerate() {
+                let events = [board(4, 1), clock(now), submit(planner as u64, 1, 1, 7, now + 7 + laxity)];
+                same("class", one(&events), &format!("{name} {want} 1 1 0 0 0 1/1,refused without class 0,events 3 files 1 stop end"));
+            }
+        }
+    }
+    // each refusal: 9 in its class, 1 and 3 to 8 without; 2, 11 to 14 are no submissions; a task withdrawn stays taken
+    same("refused with 1, and 2", one(&[submit(0, 1, 1, 1, 9), board(0, 1), submit(9, 1, 1, 1, 9)]), "refused without class 2,events 3 files 1 stop end");
+    for (planner, a, number) in [(4, ask(8, 1, 1, 1, 9), 3), (3, ask(0, 1, 1, 1, 9), 4), (3, ask(8, 5, 1, 1, 9), 5), (3, ask(8, 1, 1, 0, 9), 6), (3, ask(7, 1, 1, 1, 9), 7), (3, ask(8, 1, 1, 1, 3), 8)] {
+        let events = [board(4, 2), submit(FULL, 7, 4, 5, 9), clock(3), Event::Submit { planner, ask: a }];
+        same("refused without class", answers(&events)[3].clone() + "," + &one(&events), &format!("{number} 0 0 0,full A 1 1 0 0 0 1/1,refused without class 1,events 4 files 1 stop end"));
+    }
+    let mut crowd = vec![board(64, 1)];
+    crowd.extend((1..=64).map(|id| submit(STUFFING, id, 1, 50, 50)));
+    crowd.extend([submit(REFERENCE, 65, 1, 10, 60), submit(HORIZON, 65, 1, 10, 110), submit(FULL, 65, 1, 10, 10), submit(FULL, 64, 1, 10, 10)]);
+    same("refused with 9", one(&crowd), "reference A 1 0 0 1 0 0/1,horizon B 1 0 0 1 0 0/1,stuffing Other 64 64 0 0 0 64/64,full Other 1 0 0 1 0 0/1,refused without class 1,events 69 files 1 stop end");
+    let events = [board(4, 1), submit(FULL, 1, 4, 5, 9), submit(FULL, 2, 4, 4, 99), withdraw(2), withdraw(2), withdraw(1), clock(3), clock(2), clock(4_000_000_000), submit(FULL, 2, 4, 4, 99)];
+    same("withdrawn", one(&events), "full A 1 1 0 0 0 1/1,full B 2 2 0 0 7 2/2,refused without class 0,events 10 files 1 stop end");
+    // stops
+    let tail = |tail: &[u8]| [&bytes[..], tail].concat();
+    let last = |files: &[Vec<u8>], limit: u64| figures(files, limit).lines().last().unwrap().to_string();
+    same("15", last(&[bytes.clone(), tail(&[4, 0]), bytes.clone()], MOST_EVENTS), "events 14 files 2 stop 15 f2 8 4");
+    same("16", last(&[tail(&[255, 1]), vec![], bytes.clone()], MOST_EVENTS), "events 7 files 1 stop 16 f1 8 255");
+    same("16 at once", last(&[vec![], vec![0], bytes.clone()], MOST_EVENTS), "events 0 files 2 stop 16 f2 1 0");
+    same("limit inside", last(&[bytes.clone(), bytes.clone()], 8), "events 8 files 2 stop limit");
+    same("limit at the end of a file", last(&[bytes.clone(), bytes.clone()], 7), "events 7 files 1 stop limit");
+    same("limit at the very end", last(&[bytes.clone(), bytes.clone()], 14), "events 14 files 2 stop limit");
+    same("limit before a 16", last(&[tail(&[9])], 7), "events 7 files 1 stop limit");
+    same("limit not reached", last(&[bytes.clone(), bytes.clone()], 15), "events 14 files 2 stop end");
+    // sums of summaries
+    let add = |text: &str| -> String {
+        let mut sum = Figures::default();
+        match add_text(&mut sum, text.as_bytes()) {
+            Ok(()) => String::from_utf8(sum.print(b"end")).unwrap(),
+            Err((line, _)) => format!("line {line}"),
+        }
+    };
+    let (l, t) = (want_listing.as_str(), figures(&[table.clone()], MOST_EVENTS));
+    same("add one", add(l), l);
+    same("add three", add(&format!("{l}{t}{l}")), &figures(&[bytes.clone(), table.clone(), bytes.clone()], MOST_EVENTS));
+    same("add nothing", add(""), "line 1");
+    same("add a part", add(&l[..l.len() - 1]), "line 19");
+    same("add a line too few", add(l.strip_suffix("events 7 files 1 stop end\n").unwrap()), "line 19");
+    same("add a line too many", add(&format!("{l}\n")), "line 20");
+    for (from, to, line) in [
+        ("planner class", "planner  class", 1),
+        ("reference A 0", "reference A 00", 2),
+        ("reference A 0", "reference B 0", 2),
+        ("stuffing A 2 2 0", "stuffing A 2 1 0", 10),
+        ("stuffing A 2 2 0", "stuffing A 3 2 0", 10),
+        ("stuffing A 2 2 0 0 2 2/2", "stuffing A 2 2 0 0 2 1/1", 10),
+        ("stuffing A 2 2 0 0 2 2/2", "stuffing A 2 2 0 0 2 2/3", 10),
+        ("stuffing A 2 2 0 0 2 2/2", "stuffing A 2 2 0 0 +2 2/2", 10),
+        ("stuffing A 2 2 0 0 2 2/2", "stuffing A 2 2 0 0 2 2/2 ", 10),
+        ("stuffing A 2 2 0 0 2 2/2", "stuffing A 2 2 0 0 18446744073709551616 2/2", 10),
+        ("stuffing A 2 2 0 0 2 2/2", "stuffing A 36893488147419103230 18446744073709551615 18446744073709551615 0 2 18446744073709551615/36893488147419103230", 10),
+        ("class 0\n", "class 0\r\n", 18),
+        ("stop end", "stop limit", 19),
+        ("stop end", "stop 15 f 8 4", 19),
+        ("stop end\n", "stop end", 19),
+        ("events 7", "events 07", 19),
+    ] {
+        let wrong = l.replacen(from, to, 1);
+        same(&format!("add {to:?}"), add(&wrong), &format!("line {line}"));
+        same(&format!("add {to:?} behind another"), add(&format!("{t}{wrong}")), &format!("line {}", 19 + line));
+    }
+    for (from, to, line) in [
+        ("stuffing A 2 2 0 0 2 2/2", "stuffing A 2 2 0 0 18446744073709551615 2/2", 10),
+        ("full B 0 0 0 0 0 0/0", "full B 9223372036854775808 9223372036854775808 0 0 0 9223372036854775808/9223372036854775808", 15),
+        ("full B 0 0 0 0 0 0/0", "full B 9223372036854775808 9223372036854775807 1 0 0 9223372036854775807/9223372036854775808", 15),
+        ("without class 0", "without class 18446744073709551615", 18),
+        ("events 7", "events 18446744073709551615", 19),
+        ("files 1", "files 18446744073709551615", 19),
+    ] {
+        let large = l.replacen(from, to, 1);
+        same("add a large one", add(&large), &large);
+        same("add a large one twice", add(&format!("{large}{large}")), &format!("line {}", 19 + line));
+    }
+
     if wrong == 0 {
-        println!("second: self-test: {right} comparisons, all as document 01 has them");
+        println!("second: self-test: {right} comparisons, all as the documents have them");
         0
     } else {
         eprintln!("second: self-test: {wrong} of {} comparisons failed", right + wrong);

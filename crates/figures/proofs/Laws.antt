@@ -39,7 +39,14 @@ waited-append (v ∷ vs) ws = omega (arith, waited-append vs ws)
 figures-append : (p c : ℕ) (vs ws : List Verdict) → figuresOf (vs ++ ws) p c ≡ plus (figuresOf vs p c) (figuresOf ws p c)
 unfolding figuresOf plus
 figures-append p c vs ws =
-    rw (of-append p c vs ws, length-append (of p c vs) (of p c ws), came-append 0 (of p c vs) (of p c ws), came-append 1 (of p c vs) (of p c ws), came-append 2 (of p c vs) (of p c ws), waited-append (of p c vs) (of p c ws))
+    rw (
+      of-append p c vs ws,
+      length-append (of p c vs) (of p c ws),
+      came-append 0 (of p c vs) (of p c ws),
+      came-append 1 (of p c vs) (of p c ws),
+      came-append 2 (of p c vs) (of p c ws),
+      waited-append (of p c vs) (of p c ws),
+    )
 
 plus-append : (xs ys us vs : List ℕ) → length xs ≡ length us → plus (xs ++ ys) (us ++ vs) ≡ plus xs us ++ plus ys vs
 unfolding plus
@@ -80,7 +87,8 @@ verdicts-append : (ts us : List Trial) → verdicts (ts ++ us) ≡ verdicts ts +
 unfolding verdicts each
 verdicts-append [] us = refl
 verdicts-append (t ∷ ts) us =
-    ap (λ l. verdictOf (t .now) (t .event) (t .answer) (t .start) ++ l) (verdicts-append ts us) ∙ sym (append-assoc (verdictOf (t .now) (t .event) (t .answer) (t .start)) (verdicts ts) (verdicts us))
+    ap (λ l. verdictOf (t .now) (t .event) (t .answer) (t .start) ++ l) (verdicts-append ts us)
+    ∙ sym (append-assoc (verdictOf (t .now) (t .event) (t .answer) (t .start)) (verdicts ts) (verdicts us))
 
 pub figures-add : (m n : ℕ) (ts us : List Trial) → plus (sheetOf m ts) (sheetOf n us) ≡ sheetOf (m + n) (ts ++ us)
 unfolding sheetOf
@@ -179,7 +187,8 @@ few-verdicts (t ∷ ts) =
     one (Withdraw n) = omega arith
 
 -- where no start is later than m, no figure is more than m for each event, and one for it and one for each file
-pub figures-most : (m : ℕ) → 1 ≤ m → (files : ℕ) (ts : List Trial) → ((t : Trial) → t ∈ ts → t .start ≤ m) → (i : ℕ) → getD (sheetOf files ts) i 0 ≤ length ts * m + length ts + files
+pub figures-most : (m : ℕ) → 1 ≤ m → (files : ℕ) (ts : List Trial) → ((t : Trial) → t ∈ ts → t .start ≤ m)
+    → (i : ℕ) → getD (sheetOf files ts) i 0 ≤ length ts * m + length ts + files
 unfolding sheetOf
 figures-most m h files ts s i =
     omega (arith, sheet-most m h (verdicts ts) (slow-all m ts s) (length ts) files i, mul-le-mul-right m (few-verdicts ts))

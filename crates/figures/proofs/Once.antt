@@ -210,13 +210,15 @@ event-classed s (Submit n a) v q = pick (cases q)
     }
 
     pick : (v ≡ this) ⊎ (v ∈ []) → Classed v
-    pick (inl e) = subst Classed (sym e) (record { class = class-few (laxity (s .board .now) (a .e) (a .d)); fate = fate-few (outcome s (Submit n a) .answer .number); planner = classed-planner s n a })
+    pick (inl e) = subst Classed (sym e)
+        (record { class = class-few (laxity (s .board .now) (a .e) (a .d)); fate = fate-few (outcome s (Submit n a) .answer .number); planner = classed-planner s n a })
     pick (inr m) = absurd (nowhere m)
 
 all-classed : (s : State) (es : List Event) (v : Verdict) → v ∈ verdicts (trialsFrom s es) → Classed v
 unfolding trialsFrom verdicts each
 all-classed s [] v q = absurd (nowhere q)
-all-classed s (e ∷ es) v q = go (λ m. all-classed (outcome s e .state) es v m) (List·Memᴰ·append-cases (verdictOf (s .board .now) e (outcome s e .answer .number) (outcome s e .answer .start)) q)
+all-classed s (e ∷ es) v q = go (λ m. all-classed (outcome s e .state) es v m)
+    (List·Memᴰ·append-cases (verdictOf (s .board .now) e (outcome s e .answer .number) (outcome s e .answer .start)) q)
   where
     go : (v ∈ verdicts (trialsFrom (outcome s e .state) es) → Classed v)
         → (v ∈ verdictOf (s .board .now) e (outcome s e .answer .number) (outcome s e .answer .start)) ⊎ (v ∈ verdicts (trialsFrom (outcome s e .state) es)) → Classed v

@@ -12,3 +12,5 @@ pub mod Demands
 pub mod Lines
 pub mod Recordings
 pub mod Stands
+pub mod Acceptance
+pub mod Tallied

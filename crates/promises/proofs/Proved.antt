@@ -71,7 +71,7 @@ open-listing : Unit {0}
 unfolding listingEvents listingPrinted recording
 open-listing = tt
 
-open-book : Unit {0}
+unfoldable pub open-book : Unit {0}
 unfolding open-lists open-planners open-lookups open-board open-refusals open-records open-cases open-sets open-listing open-texts
 open-book = tt
 

@@ -3,3 +3,4 @@ pub mod ProvingSet
 pub mod Edges
 pub mod Ledger
 pub mod Said
+pub mod Accepted

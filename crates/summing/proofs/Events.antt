@@ -80,7 +80,8 @@ pub record Leaves (r : Reader) (h : Heard) : Type 0 where
   pub few : r .number ≤ mostEvents → h .reader .number ≤ mostEvents
 
 over-leaves : (r : Reader) (kept : ℕ) (bytes : List ℕ) (words : ℕ) → Leaves r (heardOver r kept bytes words)
-over-leaves r kept bytes words = over-by (Leaves r) r kept bytes words (λ q. record { state = follows; few = most }) (λ q k e. record { state = follows; few = most }) (λ q f. record { state = follows; few = most })
+over-leaves r kept bytes words = over-by (Leaves r) r kept bytes words (λ q. record { state = follows; few = most })
+    (λ q k e. record { state = follows; few = most }) (λ q f. record { state = follows; few = most })
   where
     run : Run
     run = ranFrom (roomFor words (r .number)) (r .state) (r .number) bytes
@@ -116,7 +117,8 @@ starts-in-time s [] t q = absurd (nowhere q)
 starts-in-time s (v ∷ vs) t q = go (λ k. starts-in-time (outcome s v .state) vs t k) (cases q)
   where
     go : (t ∈ trialsFrom (outcome s v .state) vs → t .start ≤ lastInstant)
-        → (t ≡ record { now = s .board .now; event = v; answer = outcome s v .answer .number; start = outcome s v .answer .start }) ⊎ (t ∈ trialsFrom (outcome s v .state) vs) → t .start ≤ lastInstant
+        → (t ≡ record { now = s .board .now; event = v; answer = outcome s v .answer .number; start = outcome s v .answer .start })
+        ⊎ (t ∈ trialsFrom (outcome s v .state) vs) → t .start ≤ lastInstant
     go next (inl e) = subst (λ n. n ≤ lastInstant) (sym (ap (λ (x : Trial). x .start) e)) (start-in-time s v)
     go next (inr k) = next k
 

@@ -55,8 +55,10 @@ pub closes : (s : Summing) (name : List ℕ) (e : Ending) (n : ℕ) → e ≡ en
     → Put out 0 (sheetText (s .figures)) l at → Put l at (stopWords name n e) m p → Put err 0 (stopSaid name n e) k q → p ≤ length m → q ≤ length k
     → (record { used = p; said = q } ≡ closed s name) × ((m ≡ overFront (sumText s name) out) × ((k ≡ overFront (sumSaid s name) err) × ((p ≤ length m) × (q ≤ length k))))
 unfolding closed sumText sumSaid fileEnd
-closes s name e n h c out err {l} {m} {k} {at} {p} {q} sheet words said u v =
-    ((λ i. record { used = (all .place ∙ zero-add (length (sumText s name))) i; said = (message .place ∙ zero-add (length (sumSaid s name))) i }), (rows-front (sumText s name) all (kept (sumText s name) all u), (rows-front (sumSaid s name) message (kept (sumSaid s name) message v), (u, v))))
+closes s name e n h c out err {l} {m} {k} {at} {p} {q} sheet words said u v = (
+  (λ i. record { used = (all .place ∙ zero-add (length (sumText s name))) i; said = (message .place ∙ zero-add (length (sumSaid s name))) i }),
+  (rows-front (sumText s name) all (kept (sumText s name) all u), (rows-front (sumSaid s name) message (kept (sumSaid s name) message v), (u, v))),
+)
   where
     there : stopWords name n e ≡ stopWords name (s .reader .number - s .before) (endOf (s .reader))
     there = ap₂ (stopWords name) c h

@@ -69,7 +69,8 @@ clock-follows s (Clock i) = go (refusedInstant (s .board) i)
     go (suc k) = unfold orRefused in rw (ne-eqb (suc k) 0 (λ x. omega arith))
 clock-follows s (Withdraw n) = go (refusedWithdraw (s .board) n)
   where
-    go : (k : ℕ) → s .board .now ≡ orRefused {A = Withdrawn} k (λ m. record { number = m; board = s .board }) (record { number = 0; board = withTasks (s .board) (withoutNamed n (s .board .tasks)) }) .board .now
+    go : (k : ℕ) → s .board .now ≡ orRefused {A = Withdrawn} k (λ m. record { number = m; board = s .board })
+        (record { number = 0; board = withTasks (s .board) (withoutNamed n (s .board .tasks)) }) .board .now
     go zero = unfold orRefused in refl
     go (suc k) = unfold orRefused in refl
 
@@ -88,7 +89,8 @@ one-line : (s : State) (v : Event) (n size : ℕ) (ls : List Line) (rest bytes :
     ≡ record { now = s .board .now; event = v; answer = o .answer .number; start = o .answer .start } ∷ trialsIn (length ls) (o .state .board .now) (lineNumbers ls ++ rest) (drop size bytes)
 unfolding trialsIn trialRead clockRead sizeRead lineNumbers lineOf
 one-line s v n size ls rest bytes e =
-    rw e (ap (λ t. record { now = s .board .now; event = v; answer = outcome s v .answer .number; start = outcome s v .answer .start } ∷ trialsIn (length ls) t (lineNumbers ls ++ rest) (drop size bytes)) (clock-follows s v))
+    rw e (ap (λ t. record { now = s .board .now; event = v; answer = outcome s v .answer .number; start = outcome s v .answer .start }
+    ∷ trialsIn (length ls) t (lineNumbers ls ++ rest) (drop size bytes)) (clock-follows s v))
 
 -- the lines of a run, and those behind them
 trials-run : (room : ℕ) (b : State) (n : ℕ) (bytes : List ℕ) (ls : List Line) (rest : List ℕ) → let run = ranFrom room b n bytes in

@@ -33,7 +33,7 @@ use Rattle.session.proofs.Recorded.{told as tells, story-got}
 use Rattle.reader.specs.declared.Reader.{Reader}
 use Rattle.reader.specs.Reader.{firstReader, Heard, open?, heard, endIn, endOf}
 use Rattle.reader.proofs.Cases.{over-by, heard-by}
-use Rattle.reader.proofs.Cuts.{restOf, Sane, first-sane, closing, closed-tells, heard-goes, Reads, done, feed, reads-tell}
+use Rattle.reader.proofs.Cuts.{restOf, Sane, first-sane, closing, closed-tells, heard-goes, heard-takes, Reads, done, feed, reads-tell}
 use Rattle.reader.proofs.Counts.{heard-counts, reads-number}
 use Rattle.stops.specs.Stops.{stopWords, stopSaid}
 use Rattle.figures.specs.Figures.{Trial, trialsFrom, sheetOf}
@@ -104,14 +104,23 @@ piece-stands s files past here f o p words = record {
     same-files = omega arith
 
     count : h .reader .number ≡ length (past ++ (here ++ more))
-    count = omega (arith, o .number, heard-counts (s .reader) p words, trials-length (s .reader .state) (h .events), length-append past here, length-append past (here ++ more), length-append here more)
+    count = omega (
+      arith,
+      o .number,
+      heard-counts (s .reader) p words,
+      trials-length (s .reader .state) (h .events),
+      length-append past here,
+      length-append past (here ++ more),
+      length-append here more,
+    )
 
     slow : (t : Trial) → t ∈ past ++ (here ++ more) → t .start ≤ lastInstant
     slow = subst (λ ts. (t : Trial) → t ∈ ts → t .start ≤ lastInstant) (append-assoc past here more)
         (both-in (λ t. t .start ≤ lastInstant) (past ++ here) more (o .in-time) (starts-in-time (s .reader .state) (h .events)))
 
 -- A FILE
-feeds-told : {s last : Summing} {bytes : List ℕ} (files : ℕ) (past here : List Trial) → files < 9223372036854775808 → Stands s files past here → Feeds s bytes last → Told s files past here bytes last
+feeds-told : {s last : Summing} {bytes : List ℕ} (files : ℕ) (past here : List Trial) → files < 9223372036854775808
+    → Stands s files past here → Feeds s bytes last → Told s files past here bytes last
 unfolding summed trialsFrom
 feeds-told files past here f o (none-left s) =
     record { lines = []; events = []; reads = done (s .reader); stands = subst (Stands s files past) (sym (append-nil here)) o }
@@ -123,7 +132,8 @@ feeds-told files past here f o (piece s p more words {last} way) =
       events = h .events ++ t .events;
       reads = feed (s .reader) p more words (t .reads);
       stands = subst (Stands last files past) (append-assoc here (trialsFrom (s .reader .state) (h .events)) (trialsFrom (h .reader .state) (t .events))
-          ∙ ap (λ x. here ++ x) (ap (λ st. trialsFrom (s .reader .state) (h .events) ++ trialsFrom st (t .events)) (heard-leaves (s .reader) p words .state) ∙ sym (trials-append (s .reader .state) (h .events) (t .events)))) (t .stands);
+          ∙ ap (λ x. here ++ x) (ap (λ st. trialsFrom (s .reader .state) (h .events) ++ trialsFrom st (t .events))
+          (heard-leaves (s .reader) p words .state) ∙ sym (trials-append (s .reader .state) (h .events) (t .events)))) (t .stands);
     }
 
 -- the reader at the begin of a file, and how its recording goes
@@ -192,7 +202,7 @@ file-read s files past here h o q f {m} way = record { stands = there; ends = ap
         omega (arith, there .number, there .before, k, length-append (past ++ here) (trialsFrom firstState (storyOf (length (past ++ here)) (f .bytes) .events)))
 
 -- the files from here on
-whole-on : (n : ℕ) (f : File) (fs : List File) → whole? (storyOf n (f .bytes) .end) ≡ true
+pub whole-on : (n : ℕ) (f : File) (fs : List File) → whole? (storyOf n (f .bytes) .end) ≡ true
     → sumFrom n (f ∷ fs) ≡ before (trialsFrom firstState (storyOf n (f .bytes) .events)) (sumFrom (n + length (storyOf n (f .bytes) .events)) fs)
 unfolding sumFrom
 whole-on n f fs e = rw e
@@ -277,3 +287,8 @@ sums-whole {fs} {last} {name} f way =
     let w = sums-write 0 [] [] (omega (arith, f)) first-stands first-few first-whole way in
     let no-more : 0 + sumFrom 0 fs .files ≡ sumFrom 0 fs .files = omega arith in
     λ i. record { out = (w .out ∙ ap (λ k. sheetText (sheetOf k (sumFrom 0 fs .trials)) ++ sumFrom 0 fs .words) no-more) i; err = w .err i }
+
+-- with room for a line a piece is always taken in part, so that reading a file ends
+pub summed-takes : (s : Summing) → Sane (s .reader) → (p : List ℕ) (words : ℕ) → 0 < length p → 6 ≤ words → 0 < summed s p words .taken
+unfolding summed
+summed-takes s sane p words h q = heard-takes (s .reader) sane p words h q

@@ -64,8 +64,10 @@ unfolding clockAfter verdictOf
 returns c =
     let b = c .before .before in
     let a = startOf b .args in
-    let e = c .enum-told .given .1 in
-    (ap (λ v. clockAfter (a .clock) v (a .answer)) (sym e), event-alone (a .figures .now) (startOf b .pre .size) (b .bump .ensures) (a .clock) (a .event) (a .answer) (a .start) (ap (λ v. verdictOf (a .clock) v (a .answer) (a .start)) e))
+    let e = c .enum-told .given .1 in (
+      ap (λ v. clockAfter (a .clock) v (a .answer)) (sym e),
+      event-alone (a .figures .now) (startOf b .pre .size) (b .bump .ensures) (a .clock) (a .event) (a .answer) (a .start) (ap (λ v. verdictOf (a .clock) v (a .answer) (a .start)) e),
+    )
 
 returns-2 : tie.Need-returns-2
 unfolding clockAfter verdictOf
@@ -105,8 +107,10 @@ unfolding clockAfter verdictOf
 returns-5 c =
     let b = c .before .before in
     let a = startOf b .args in
-    let e = c .enum-told2 .given .1 in
-    (ap (λ v. clockAfter (a .clock) v (a .answer)) (sym e), event-alone (a .figures .now) (startOf b .pre .size) (b .bump .ensures) (a .clock) (a .event) (a .answer) (a .start) (ap (λ v. verdictOf (a .clock) v (a .answer) (a .start)) e))
+    let e = c .enum-told2 .given .1 in (
+      ap (λ v. clockAfter (a .clock) v (a .answer)) (sym e),
+      event-alone (a .figures .now) (startOf b .pre .size) (b .bump .ensures) (a .clock) (a .event) (a .answer) (a .start) (ap (λ v. verdictOf (a .clock) v (a .answer) (a .start)) e),
+    )
 
 pub count-event-spec : {M : Type 1} → statement M
 count-event-spec =

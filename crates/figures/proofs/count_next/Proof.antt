@@ -55,7 +55,11 @@ returns-2 c =
     let a = s .args in
     let e = sym (g .reading .given .1) ∙ r .read-at .ensures .0 in (
       (ap sizeRead e, c .count-event .ensures .0 ∙ ap (λ x. clockRead (a .clock) x (a .answer)) e),
-      (reads-one (a .figures .now) (a .clock) _ _ (a .answer) (a .start) (c .count-event .ensures .1) ∙ ap (λ x. plus (a .figures .now) (sheetOf 0 (trialRead (a .clock) x (a .answer) (a .start)))) e, start-fits s),
+      (
+        reads-one (a .figures .now) (a .clock) _ _ (a .answer) (a .start) (c .count-event .ensures .1)
+            ∙ ap (λ x. plus (a .figures .now) (sheetOf 0 (trialRead (a .clock) x (a .answer) (a .start)))) e,
+        start-fits s,
+      ),
     )
 
 returns-3 : tie.Need-returns-3

@@ -56,8 +56,21 @@ returns c =
     let a = g .args in (
       message-put (a .name .now) _ (a .kind) (a .tail .now) (put-text (f .put-bytes .ensures .0) (f .put-bytes .ensures .1)) (put-text (m .put-bytes2 .ensures .0) (m .put-bytes2 .ensures .1))
           (put-text (e .put-bytes3 .ensures .0) (e .put-bytes3 .ensures .1)) (next-number (a .before) (n .put-long .ensures .0) (n .put-long .ensures .1 .0))
-          (put-text (k .put-bytes4 .ensures .0) (k .put-bytes4 .ensures .1)) (put-text (d .put-decimal .ensures .0) (d .put-decimal .ensures .1 .0)) (put-text (c .put-bytes5 .ensures .0) (c .put-bytes5 .ensures .1)),
-      omega (arith, g .pre .0, g .pre .1, f .put-bytes .ensures .0, m .put-bytes2 .ensures .0, e .put-bytes3 .ensures .0, n .put-long .ensures .1 .1, k .put-bytes4 .ensures .0, d .put-decimal .ensures .1 .1, c .put-bytes5 .ensures .0, room c),
+          (put-text (k .put-bytes4 .ensures .0) (k .put-bytes4 .ensures .1)) (put-text (d .put-decimal .ensures .0) (d .put-decimal .ensures .1 .0))
+          (put-text (c .put-bytes5 .ensures .0) (c .put-bytes5 .ensures .1)),
+      omega (
+        arith,
+        g .pre .0,
+        g .pre .1,
+        f .put-bytes .ensures .0,
+        m .put-bytes2 .ensures .0,
+        e .put-bytes3 .ensures .0,
+        n .put-long .ensures .1 .1,
+        k .put-bytes4 .ensures .0,
+        d .put-decimal .ensures .1 .1,
+        c .put-bytes5 .ensures .0,
+        room c,
+      ),
     )
 
 pub put-message-spec : {M : Type 1} → statement M

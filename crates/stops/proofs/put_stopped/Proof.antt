@@ -43,7 +43,18 @@ returns c =
       stopped-put (a .number .now) (a .name .now) _ (a .kind) (put-text (f .put-bytes .ensures .0) (f .put-bytes .ensures .1)) (put-text (e .put-bytes2 .ensures .0) (e .put-bytes2 .ensures .1))
           (put-text (s .put-bytes3 .ensures .0) (s .put-bytes3 .ensures .1)) (next-number (a .before) (n .put-long .ensures .0) (n .put-long .ensures .1 .0))
           (put-text (k .put-bytes4 .ensures .0) (k .put-bytes4 .ensures .1)) (c .put-ended .ensures .0),
-      omega (arith, f .before .before .before .before .pre .0, f .before .before .before .before .pre .1, f .before .before .before .before .pre .2, f .put-bytes .ensures .0, e .put-bytes2 .ensures .0, s .put-bytes3 .ensures .0, n .put-long .ensures .1 .1, k .put-bytes4 .ensures .0, c .put-ended .ensures .1),
+      omega (
+        arith,
+        f .before .before .before .before .pre .0,
+        f .before .before .before .before .pre .1,
+        f .before .before .before .before .pre .2,
+        f .put-bytes .ensures .0,
+        e .put-bytes2 .ensures .0,
+        s .put-bytes3 .ensures .0,
+        n .put-long .ensures .1 .1,
+        k .put-bytes4 .ensures .0,
+        c .put-ended .ensures .1,
+      ),
     )
 
 pub put-stopped-spec : {M : Type 1} → statement M
