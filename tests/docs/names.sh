@@ -4,7 +4,7 @@
 #   CRATE/EDIT              is an edit of crates/CRATE/must-fail/,
 #   CRATE::NAME             is declared in crates/CRATE/src/,
 #   an equation, .. ≡ ..    stands so in a contract or a theorem, but for `now (x .entry)`, which may be x, where no .. is left out,
-#   main of a program       is quoted in docs/PROMISES.md as it stands,
+#   a program's functions   are quoted in docs/PROMISES.md as they stand,
 #   any other name          is declared: in the file of `file`: `name`, `name` that it stands behind, otherwise in some file under crates/.
 # Not looked at: fenced and indented blocks, the key to the notation, other texts with blanks, and the words of words.txt.
 # Prints each name that is not there, and ends with 1 if there is one, otherwise with a line that counts them.
@@ -82,10 +82,10 @@ while IFS=$'\t' read -r page line item between next name; do
     esac
 done <"$work/names"
 # "quotes these lines whole"
-for program in plan record ask; do
+for program in plan record ask summary; do
     looked=$((looked + 1)) page=docs/PROMISES.md line=0 name=$program
-    lines=$(sed -n '/^fn main/,$s/^/    /p' "crates/$program/src/main.rt")
-    [[ $(cat docs/PROMISES.md) == *"$lines"* ]] || miss "its main is not quoted as it stands"
+    lines=$(sed -n '/^\(fn\|struct\) /,$p' "crates/$program/src/main.rt" | sed 's/^..*/    &/')
+    [[ $(cat docs/PROMISES.md) == *"$lines"* ]] || miss "its functions are not quoted as they stand"
 done
 [ "$missing" -eq 0 ] || { echo "names.sh: $missing of $looked names are not there" >&2; exit 1; }
 echo "names.sh: all $looked names are there"

@@ -161,8 +161,116 @@ for program in record plan; do
     wait || true
 done
 
+# summary: the rows with a submission, the line without class, the end
+rows() { tell $run summary "$@" | grep -v ' 0 0 0 0 0 0/0$'; }
+head1="planner class submitted taken rejected refused waited taken/submitted"
+$run record crates/record/stdin >"$work/listing"
+for name in table1 laxity full; do $run record tests/summary/$name.txt >"$work/$name"; done
+check "summary of 01's listing" "$head1
+stuffing A 2 2 0 0 2 2/2
+stuffing Other 1 0 1 0 0 0/1
+full Other 1 1 0 0 0 1/1
+refused without class 0
+events 7 files 1 stop end" "$(rows "$work/listing")"
+check "summary: 19 lines, also of nothing" "19 events 0 files 1 stop end" "$($run summary </dev/null | awk 'END { print NR, $0 }')"
+check "summary of Table 1 by each planner" "$head1
+reference A 7 3 4 0 0 3/7
+horizon A 7 7 0 0 36 7/7
+stuffing A 7 7 0 0 26 7/7
+full A 7 7 0 0 26 7/7
+refused without class 0
+events 44 files 1 stop end" "$(rows "$work/table1")"
+check "summary of two files: it doubles" "$head1
+reference A 14 6 8 0 0 6/14
+horizon A 14 14 0 0 72 14/14
+stuffing A 14 14 0 0 52 14/14
+full A 14 14 0 0 52 14/14
+refused without class 0
+events 88 files 2 stop end" "$(rows "$work/table1" "$work/table1")"
+check "summary: laxities 0, 1, 50, 51, 100, 101, 200, 201, and what is refused without class" "$head1
+reference A 1 0 1 0 0 0/1
+reference Other 1 0 1 0 0 0/1
+horizon B 1 0 1 0 0 0/1
+horizon C 1 1 0 0 53 1/1
+stuffing A 1 0 1 0 0 0/1
+full A 2 2 0 0 0 2/2
+full B 2 2 0 0 0 2/2
+full C 2 2 0 0 0 2/2
+full Other 3 3 0 0 3 3/3
+refused without class 7
+events 24 files 1 stop end" "$(rows "$work/laxity")"
+check "summary: 64 live, and a task withdrawn stays taken" "$head1
+reference A 1 0 0 1 0 0/1
+horizon B 1 0 0 1 0 0/1
+stuffing A 50 50 0 0 0 50/50
+stuffing B 14 14 0 0 0 14/14
+stuffing C 1 0 0 1 0 0/1
+full A 3 3 0 0 15 3/3
+full Other 1 0 0 1 0 0/1
+refused without class 0
+events 76 files 1 stop end" "$(rows "$work/full")"
+whole=$($run summary "$work/table1")
+for size in 1 37; do
+    check "summary, a pipe in pieces of $size" "${whole}" "$(dd bs=$size if="$work/table1" 2>/dev/null | $run summary)"
+done
+check "summary, slowly" "$whole" "$(slowly "$work/table1" 1 3 10 20 | tell $run summary)"
+check "summary stops at a 15, with the figures so far" "stuffing A 2 2 0 0 2 2/2
+refused without class 0
+events 6 files 3 stop 15 $work/cut 2 2
+!
+summary: $work/cut: event 2 (kind 2) is cut short (15): the recording is not whole
+status 1" "$(tell $run summary "$work/session" "$work/none" "$work/cut" "$work/session" | sed -n '/^stuffing A/p; /^refused/,$p')"
+check "summary stops at a 16 on standard input" "events 1 files 1 stop 16 - 2 9
+!
+summary: -: event 2 (kind 9) is of no known kind (16): the rest was not read
+status 1" "$(tell $run summary <"$work/strange" | sed '/^events/,$!d')"
+check "summary, no such file: no figures" "!
+summary: $work/missing: No such file or directory
+status 1" "$(tell $run summary "$work/session" "$work/missing" "$work/session")"
+check "summary, a folder: no figures" "!
+summary: $work: cannot read: Is a directory
+status 1" "$(tell $run summary "$work/session" "$work")"
+# summaries added
+for name in listing table1 laxity full; do $run summary "$work/$name" >"$work/$name.sum"; done
+all=$($run summary "$work/listing" "$work/table1" "$work/laxity" "$work/full")
+check "summary --add, files" "$all" "$(tell $run summary --add "$work/listing.sum" "$work/table1.sum" "$work/laxity.sum" "$work/full.sum")"
+check "summary --add, standard input" "$all" "$(cat "$work"/{listing,table1,laxity,full}.sum | tell $run summary --add)"
+check "summary --add, pieces of 37" "$all" "$(cat "$work"/{listing,table1,laxity,full}.sum | dd obs=37 2>/dev/null | $run summary --add)"
+check "one summary a process, added" "$all" "$(printf '%s\0' "$work"/{listing,table1,laxity,full} | xargs -0 -P 2 -n 1 $run summary | $run summary --add)"
+sed '$s/end$/limit/' "$work/table1.sum" >"$work/limit.sum"
+check "summary --add, one that stopped at the limit" "!
+summary: $work/limit.sum: line 19 is not what a summary that ends in 'stop end' has there
+status 1" "$(tell $run summary --add "$work/listing.sum" "$work/limit.sum")"
+sed '2s/ 7 3 4 / 7 3 5 /' "$work/table1.sum" >"$work/wrong.sum"
+check "summary --add, a row that does not add up" "!
+summary: -: line 21 is not what a summary that ends in 'stop end' has there
+status 1" "$(cat "$work/listing.sum" "$work/wrong.sum" | tell $run summary --add)"
+sed '18s/0$/18446744073709551615/' "$work/table1.sum" >"$work/large.sum"
+check "summary --add, up to 64 bits" "refused without class 18446744073709551615" "$(tell $run summary --add "$work/large.sum" "$work/table1.sum" | sed -n 18p)"
+check "summary --add, past 64 bits" "!
+summary: $work/laxity.sum: the summary at line 1 makes a sum of more than 64 bits
+status 1" "$(tell $run summary --add "$work/large.sum" "$work/laxity.sum")"
+check "summary --add, nothing" "!
+summary: -: line 1 is not what a summary that ends in 'stop end' has there
+status 1" "$(tell $run summary --add </dev/null)"
+# how far it is: on a terminal, and nowhere else
+{
+    echo "board 256 1"
+    for id in $(seq 60); do echo "submit horizon $id 4 1 $((id * 7 % 97 + 1)) 2000"; done
+    yes "submit stuffing 61 256 1 300 379" | head -n 50000 || true
+} | $run record >"$work/busy"
+many=("$work/busy" "$work/busy" "$work/busy" "$work/busy")
+check "summary, 200,244 events, no terminal" "stuffing B 200000 0 200000 0 0 0/200000
+refused without class 0
+events 200244 files 4 stop end" "$(tell $run summary "${many[@]}" | sed -n '11p; 18,$p')"
+if command -v script >/dev/null; then
+    shown=$(script -qec "$run summary ${many[*]} >'$work/out'" /dev/null | tr '\r' '\n')
+    check "summary, a terminal: how far it is" "summary: file N, N events" "$(grep -o 'summary: file [0-9]*, [0-9]* events' <<<"$shown" | sed 's/[0-9][0-9]*/N/g' | sort -u)"
+    check "summary, a terminal: the figures are the same" "events 200244 files 4 stop end" "$(sed 1,18d "$work/out")"
+fi
+
 # arguments
-for program in plan record ask; do
+for program in plan record ask summary; do
     check "$program --help" "$program" "$($run $program --help | awk 'NR == 1 { print $1 }')"
     check "$program --help has the answers" "  3 no such planner" "$($run $program --help | grep '^  3 ')"
     check "$program with a stray argument" "!

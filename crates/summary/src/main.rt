@@ -9,8 +9,8 @@ use summing::Summing;
 use system::Name;
 use system::Pace;
 
-// The machine after a file, the name of the last file read, whether it could not be read, whether another may follow, and when
-// standard error was last told how far it is.
+// The machine after a file, the name of the last file read, whether it could not be read, whether another may follow, and when a
+// terminal was last told how far it is.
 struct Summed {
     summing: Summing,
     name: Name,
@@ -67,7 +67,7 @@ fn show_progress(s: Summing, last: Pace) -> Pace {
     if pace.due {
         let mut line = [0u8; 128];
         let size = summing::put_progress(s, &mut line);
-        system::show(&line[0..size]);
+        system::show(pace, &line[0..size]);
     }
     pace
 }
@@ -89,7 +89,7 @@ fn sum_files(first: usize, end: usize) {
         turns = system::turns_left(done.on & (file < end), turns);
     }
     if pace.shows {
-        system::show(b"");
+        system::show(pace, b"");
     }
     if failed {
         return;

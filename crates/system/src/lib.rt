@@ -221,19 +221,32 @@ pub fn turns_left(more: bool, turns: u64) -> u64
     if more { turns - 1 } else { 0 }
 }
 
-// When standard error was last told how far it is: by the quarter of a second of the processor's time. Only a terminal is told.
+// Where `./run` hands on the terminal of its standard error, whose place it takes to see whether anything is written there.
+const TERMINAL_FILENO: i32 = 9;
+
+// When the terminal was last told how far it is: by the quarter of a second of the processor's time. Only a terminal is told.
 pub struct Pace {
     pub shows: bool,
     pub due: bool,
     pub quarter: i64,
+    pub fd: i32,
+}
+
+fn pace_on(fd: i32) -> Pace {
+    Pace {
+        shows: libc::isatty(fd) == 1,
+        due: false,
+        quarter: 0,
+        fd: fd,
+    }
 }
 
 pub fn first_pace() -> Pace {
-    Pace {
-        shows: libc::isatty(STDERR_FILENO) == 1,
-        due: false,
-        quarter: 0,
+    let pace = pace_on(STDERR_FILENO);
+    if pace.shows {
+        return pace;
     }
+    pace_on(TERMINAL_FILENO)
 }
 
 // Whether a quarter of a second has passed: 2^18 microseconds.
@@ -246,6 +259,7 @@ pub fn tick(p: Pace) -> Pace {
         shows: true,
         due: quarter != p.quarter,
         quarter: quarter,
+        fd: p.fd,
     }
 }
 
@@ -278,8 +292,9 @@ pub fn no_page() -> [u8; 8192]
     [0; 8192]
 }
 
-// Tells standard error how far it is, in place of what it was told before.
-pub fn show(text: &[u8]) {
-    io::write_all(STDERR_FILENO, &[13, 27, b'[', b'K']);
-    io::write_all(STDERR_FILENO, text);
+// Tells the terminal how far it is, in place of what it was told before; what is written next begins in the same line.
+pub fn show(pace: Pace, text: &[u8]) {
+    io::write_all(pace.fd, &[27, b'[', b'K']);
+    io::write_all(pace.fd, text);
+    io::write_all(pace.fd, &[13]);
 }
