@@ -1,11 +1,17 @@
 -- What `summary` is told by its arguments: `--help`, `--add`, FILE .. Assumes nothing.
-use Prim.Native.Nat.{ℕ, suc}
+use Prim.Native.Nat.{ℕ}
 use mathlib.Core.Bool.{true, false, cond}
 use mathlib.Core.List.{List, [], _∷_}
+use lib.ListN.{take}
 use Rattle.text.specs.Text.{ascii}
 use Rattle.tokens.specs.Tokens.{same}
 use Rattle.orders.specs.Orders.{option}
 use Rattle.batches.specs.declared.Batch.{Batch}
+use Rattle.batches.specs.declared.Name.{Name}
+
+-- the bytes of a file's name
+abbrev pub nameOf : Name → List ℕ
+nameOf n = take (n .size) (n .bytes)
 
 -- no argument: standard input
 abbrev pub noBatch : Batch

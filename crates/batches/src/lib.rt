@@ -1,6 +1,8 @@
 // What `summary` is told by its arguments.
 ghost use mathlib.Core.Path.{_≡_};
-ghost use Rattle.batches.specs.Batches.{noBatch, spoilt, includes};
+ghost use Prim.Native.Nat.{_≤_};
+ghost use lib.ListN.{take};
+ghost use Rattle.batches.specs.Batches.{noBatch, spoilt, includes, nameOf};
 
 // Whether help is asked for, summaries are to be added, an argument is wrong, a file is named.
 pub struct Batch {
@@ -8,6 +10,22 @@ pub struct Batch {
     pub add: bool,
     pub wrong: bool,
     pub named: bool,
+}
+
+// The name of a file, its first `size` bytes; `-` for standard input.
+pub struct Name {
+    pub bytes: [u8; 4096],
+    pub size: usize,
+}
+
+// How many bytes a name has: no more than there is room for.
+pub fn size_of(name: Name) -> usize
+    ensures { λ r. ⌜ (r ≤ 4096) × (take r (name .bytes) ≡ nameOf name) ⌝ }
+{
+    if name.size <= 4096 {
+        return name.size;
+    }
+    4096
 }
 
 pub fn no_batch() -> Batch

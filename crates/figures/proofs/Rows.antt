@@ -73,7 +73,7 @@ unfolding trialsIn
 no-rows now numbers bytes = refl
 
 module _ {count clock : ℕ} {numbers bytes figures : List ℕ} {then at i : ℕ} (o : Counted count clock numbers bytes figures then at i) where
-  pub rows-room : i < 1000000 → Roomy 4611686018427387903 figures
+  pub rows-room : i < 1000000000 → Roomy 4611686018427387903 figures
   rows-room h = record { size = ap length (o .sums) ∙ figures-length 0 (o .done); small = λ j. omega (arith, o .small j) }
 
   pub record-there : {size : ℕ} → size ≡ sizeRead (readFrom (drop at bytes)) → at + size ≤ length bytes

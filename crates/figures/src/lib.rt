@@ -155,7 +155,7 @@ pub fn no_figures() -> [u64; 83]
 
 // THE FIGURES of events that stand with their answers in lines of six numbers, from a clock on.
 pub fn count_rows(clock: u32, numbers: &[u32], count: usize, bytes: &[u8]) -> [u64; 83]
-    requires { ⌜ (count ≤ 1000000) × (count * 6 ≤ length (now numbers)) ⌝ }
+    requires { ⌜ (count ≤ 1000000000) × (count * 6 ≤ length (now numbers)) ⌝ }
     ensures { λ r. ⌜ r ≡ sheetOf 0 (trialsIn count clock (now (numbers .entry)) (now (bytes .entry))) ⌝ }
 {
     let mut figures = no_figures();

@@ -1,12 +1,9 @@
 // The program `summary` of document 02, Q-1: recordings to acceptance figures, or, with `--add`, summaries to their sum. Files are
 // read one after the other, a piece at a time, and the text is written at the end: `summaryText` of the files (crates/summing),
 // or the sum (crates/adding). An argument that names no file is passed over; file 0 is standard input.
-ghost use mathlib.Core.Path.{_≡_};
-ghost use Prim.Native.Nat.{_≤_};
-ghost use lib.ListN.{length};
 use adding::Adding;
+use batches::Name;
 use summing::Summing;
-use system::Name;
 use system::Pace;
 
 // The machine after a file, the name of the last file read, whether it could not be read, whether another may follow, and when a
@@ -19,10 +16,7 @@ struct Summed {
     pace: Pace,
 }
 
-fn sum_file(before: Summing, file: usize, last: Name, told: Pace) -> Summed
-    requires { ⌜ (last .size ≤ 4096) × (length (last .bytes) ≡ 4096) ⌝ }
-    ensures { λ r. ⌜ (r .name .size ≤ 4096) × (length (r .name .bytes) ≡ 4096) ⌝ }
-{
+fn sum_file(before: Summing, file: usize, last: Name, told: Pace) -> Summed {
     let name = system::name_of(file);
     if name.size == 0 {
         return Summed {
@@ -96,9 +90,7 @@ fn sum_files(first: usize, end: usize) {
     }
     let mut out = system::no_page();
     let mut err = system::no_page();
-    let bytes = name.bytes;
-    let size = name.size;
-    let closed = summing::close(s, &bytes[0..size], &mut out, &mut err);
+    let closed = summing::close(s, name, &mut out, &mut err);
     let used = closed.used;
     let said = closed.said;
     system::write(b"summary: ", &out[0..used], &err[0..said]);

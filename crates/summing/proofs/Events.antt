@@ -26,7 +26,7 @@ use Rattle.events.specs.Records.{readFrom, submissionOf}
 use Rattle.steps.specs.declared.State.{State}
 use Rattle.session.specs.declared.Ending.{Ending}
 use Rattle.session.specs.declared.Ending.the-variants.{NotYet, AtEnd, In15, In16, AtLast, PastLast}
-use Rattle.session.specs.Recording.{Line, outcome, Story, storyFrom, Run, still, ranFrom, roomFor, mostEvents, firstState}
+use Rattle.session.specs.Recording.{Line, stopLine, outcome, Story, storyFrom, Run, still, ranFrom, roomFor, mostEvents, firstState}
 use Rattle.session.proofs.Running.{ran-got}
 use Rattle.session.proofs.Recorded.{run-few, story-got, story-cut, story-strange, story-end}
 use Rattle.reader.specs.declared.Reader.{Reader}
@@ -97,6 +97,20 @@ unfolding stateAfter
 heard-leaves r p words =
     heard-by (Leaves r) r p words (λ o q. over-leaves r 0 p words) (λ o q. over-leaves r (length (heldOf r)) (take 18 (heldOf r ++ p)) (min words 6))
     (λ c. record { state = refl; few = λ h. h })
+
+-- a piece has no more lines than there may be events
+over-few : (r : Reader) (kept : ℕ) (bytes : List ℕ) (words : ℕ) → length (heardOver r kept bytes words .lines) ≤ mostEvents
+over-few r kept bytes words =
+    over-by (λ h. length (h .lines) ≤ mostEvents) r kept bytes words (λ q. omega (arith, q))
+    (λ q k e. omega (arith, q, length-append (run .lines) (stopLine (suc (r .number + length (run .lines))) k 16 ∷ []))) (λ q f. omega (arith, q))
+  where
+    run : Run
+    run = ranFrom (roomFor words (r .number)) (r .state) (r .number) bytes
+
+pub heard-few : (r : Reader) (p : List ℕ) (words : ℕ) → length (heard r p words .lines) ≤ mostEvents
+heard-few r p words =
+    heard-by (λ h. length (h .lines) ≤ mostEvents) r p words (λ o q. over-few r 0 p words)
+    (λ o q. over-few r (length (heldOf r)) (take 18 (heldOf r ++ p)) (min words 6)) (λ c. omega arith)
 
 -- A START IS NO LATER THAN 2,000,000,000
 start-in-time : (s : State) (v : Event) → outcome s v .answer .start ≤ lastInstant

@@ -3,6 +3,7 @@ use Prim.Native.Nat.{ℕ, _-_, _≤_}
 use mathlib.Core.Path.{_≡_, sym, ap, ap₂, _∙_, subst}
 use mathlib.Core.List.{List, _++_}
 use native.Mathlib.Nat.{zero-add}
+use native.Mathlib.Omega.{arith}
 use lib.ListN.{length, drop}
 use lib.Seq.{length-sets}
 use Rattle.lists.specs.Lists.{overFront}
@@ -13,14 +14,16 @@ use Rattle.sheets.specs.Sheets.{plus, wrapped, fits?, sheetText}
 use Rattle.stops.specs.Stops.{stopWords, stopSaid}
 use Rattle.session.specs.declared.Ending.{Ending}
 use Rattle.sheets.specs.declared.Sums.{Sums}
-use Rattle.session.specs.Recording.{lineNumbers}
+use Rattle.session.specs.Recording.{lineNumbers, mostEvents}
 use Rattle.reader.specs.declared.Fed.{Fed}
+use Rattle.reader.specs.declared.Reader.{Reader}
 use Rattle.reader.specs.Reader.{Heard, sourceOf, heard, asFed, fed, fedBuffer, endOf}
 use Rattle.figures.specs.Figures.{trialsFrom, sheetOf}
 use Rattle.figures.specs.Rows.{trialsIn}
 use Rattle.summing.specs.declared.Summing.{Summing}
 use Rattle.summing.specs.Summing.{summed, fileEnd, sumText, sumSaid, closed}
 use Rattle.summing.proofs.Trials.{told-trials}
+use Rattle.summing.proofs.Events.{heard-few}
 
 module _ (s : Summing) (piece numbers : List ℕ) (words : ℕ) (m : words ≡ length numbers) where
   abbrev h : Heard
@@ -49,6 +52,19 @@ module _ (s : Summing) (piece numbers : List ℕ) (words : ℕ) (m : words ≡ l
 
       all : sums .figures ≡ wrapped (plus (s .figures) (sheetOf 0 (trialsFrom (s .reader .state) (h .events))))
       all = ap (λ (x : Sums). x .figures) q ∙ ap (λ l. wrapped (plus (s .figures) l)) (c ∙ ap (sheetOf 0) told)
+
+-- the count that is handed on
+pub counts-few : (r : Reader) (piece : List ℕ) (words : ℕ) (f : Fed) → f ≡ fed r piece words → f .count ≤ mostEvents
+unfolding fed
+counts-few r piece words f e = omega (arith, ap (λ (x : Fed). x .count) e, heard-few r piece words)
+
+-- the name by itself
+module _ {l m x y : List ℕ} {at p : ℕ} (n : ℕ) (e : Ending) (same : x ≡ y) where
+  pub words-of : Put l at (stopWords x n e) m p → Put l at (stopWords y n e) m p
+  words-of w = subst (λ z. Put l at (stopWords z n e) m p) same w
+
+  pub said-of : Put l at (stopSaid x n e) m p → Put l at (stopSaid y n e) m p
+  said-of w = subst (λ z. Put l at (stopSaid z n e) m p) same w
 
 -- AT THE STOP: the sheet, and behind it where it stopped
 pub closes : (s : Summing) (name : List ℕ) (e : Ending) (n : ℕ) → e ≡ endOf (s .reader) → n ≡ s .reader .number - s .before → (out err : List ℕ) {l m k : List ℕ} {at p q : ℕ}

@@ -4,6 +4,7 @@ ghost use mathlib.Core.List.{[]};
 ghost use Prim.Native.Nat.{suc, _-_, _*_, _≤_};
 ghost use lib.ListN.{length, getD};
 ghost use Rattle.lists.specs.Lists.{overFront};
+ghost use Rattle.batches.specs.Batches.{nameOf};
 ghost use Rattle.text.specs.Digits.{Put};
 ghost use Rattle.stops.specs.Stops.{progressText};
 ghost use Rattle.reader.specs.Reader.{sourceOf, open?, fedBuffer};
@@ -11,6 +12,7 @@ ghost use Rattle.figures.specs.Figures.{sheetOf};
 ghost use Rattle.figures.specs.Rows.{trialsIn};
 ghost use Rattle.summing.specs.Summary.{whole?};
 ghost use Rattle.summing.specs.Summing.{firstSumming, readerAt, nextFile, summed, fileEnd, sumText, sumSaid, closed};
+use batches::Name;
 use reader::Reader;
 use session::Ending;
 
@@ -96,7 +98,7 @@ pub fn no_numbers() -> [u32; 24576]
 
 // The figures of lines that stand as numbers.
 fn count_lines(numbers: &[u32], count: usize, r: Reader, piece: &[u8]) -> [u64; 83]
-    requires { ⌜ (count ≤ 1000000) × (count * 6 ≤ length (now numbers)) ⌝ }
+    requires { ⌜ (count ≤ 1000000000) × (count * 6 ≤ length (now numbers)) ⌝ }
     ensures { λ f. ⌜ f ≡ sheetOf 0 (trialsIn count (r .state .board .now) (now (numbers .entry)) (sourceOf r (now (piece .entry)))) ⌝ }
 {
     let state = r.state;
@@ -110,12 +112,11 @@ fn count_lines(numbers: &[u32], count: usize, r: Reader, piece: &[u8]) -> [u64; 
     figures::count_rows(board.now, numbers, count, &bytes[0..size])
 }
 
-// A PIECE of the file at hand; the lent numbers are room for its lines.
-pub fn feed(s: Summing, piece: &[u8], numbers: &mut [u32; 24576]) -> Summed
-    requires { ⌜ 24576 ≡ length (now numbers) ⌝ }
-    ensures { λ r. ⌜ r ≡ summed s (now (piece .entry)) 24576 ⌝ }
+// A PIECE of the file at hand; the lent numbers are room for its lines, six a line.
+pub fn feed(s: Summing, piece: &[u8], numbers: &mut [u32]) -> Summed
+    ensures { λ r. ⌜ r ≡ summed s (now (piece .entry)) (length (now (numbers .entry))) ⌝ }
     ensures { λ r. ⌜ now (numbers .exit) ≡ fedBuffer (s .reader) (now (piece .entry)) (now (numbers .entry)) ⌝ }
-    ensures { λ r. ⌜ (r .taken ≤ length (now (piece .entry))) × (24576 ≡ length (now (numbers .exit))) ⌝ }
+    ensures { λ r. ⌜ r .taken ≤ length (now (piece .entry)) ⌝ }
 {
     let reader = s.reader;
     let so_far = s.figures;
@@ -187,20 +188,21 @@ fn events_in(s: Summing) -> u32
 }
 
 // THE SUMMARY STOPS, in the file of that name: what is to be written.
-pub fn close(s: Summing, name: &[u8], out: &mut [u8; 8192], err: &mut [u8; 8192]) -> Closed
-    requires { ⌜ length (now name) ≤ 4096 ⌝ }
-    ensures { λ r. ⌜ r ≡ closed s (now (name .entry)) ⌝ }
-    ensures { λ r. ⌜ now (out .exit) ≡ overFront (sumText s (now (name .entry))) (now (out .entry)) ⌝ }
-    ensures { λ r. ⌜ now (err .exit) ≡ overFront (sumSaid s (now (name .entry))) (now (err .entry)) ⌝ }
+pub fn close(s: Summing, name: Name, out: &mut [u8; 8192], err: &mut [u8; 8192]) -> Closed
+    ensures { λ r. ⌜ r ≡ closed s (nameOf name) ⌝ }
+    ensures { λ r. ⌜ now (out .exit) ≡ overFront (sumText s (nameOf name)) (now (out .entry)) ⌝ }
+    ensures { λ r. ⌜ now (err .exit) ≡ overFront (sumSaid s (nameOf name)) (now (err .entry)) ⌝ }
     ensures { λ r. ⌜ (r .used ≤ length (now (out .exit))) × (r .said ≤ length (now (err .exit))) ⌝ }
 {
     let reader = s.reader;
     let figures = s.figures;
+    let bytes = name.bytes;
+    let size = batches::size_of(name);
     let end = reader::close(reader);
     let events = events_in(s);
     let at = sheets::put_sheet(out, &figures);
-    let used = stops::put_words(out, at, name, events, end);
-    let said = stops::put_said(err, name, events, end);
+    let used = stops::put_words(out, at, &bytes[0..size], events, end);
+    let said = stops::put_said(err, &bytes[0..size], events, end);
     Closed {
         used: used,
         said: said,

@@ -5,6 +5,7 @@ ghost use Prim.Native.Nat.{_+_, _≤_, _<_};
 ghost use lib.ListN.{length};
 use arguments::Asked;
 use batches::Batch;
+use batches::Name;
 use libc::STDERR_FILENO;
 use libc::STDIN_FILENO;
 use libc::STDOUT_FILENO;
@@ -84,12 +85,6 @@ pub fn arguments() -> usize {
 // The argument after one.
 pub fn after(file: usize) -> usize {
     if file < usize::MAX { file + 1 } else { file }
-}
-
-// The name of a file, `-` for standard input.
-pub struct Name {
-    pub bytes: [u8; 4096],
-    pub size: usize,
 }
 
 // The name that an argument names a file by, of no byte where it names none; standard input's for 0.

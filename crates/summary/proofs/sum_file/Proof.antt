@@ -15,8 +15,8 @@ abbrev μ-loop : tie.MeasureT-loop
 μ-loop file name program size s₀ pace₀ piece₀ numbers₀ input₀ turns₀ s pace piece numbers input turns = turns
 
 -- the turn
-abbrev turnOf : tie.After-numbers Inv-loop μ-loop → tie.In-loop Inv-loop μ-loop
-turnOf c = c .before .before .before .before .before .before .before .before
+abbrev turnOf : tie.After-numbers2 Inv-loop μ-loop → tie.In-loop Inv-loop μ-loop
+turnOf m = m .before .before .before .before .before .before .before .before .before .before
 
 name-of-requires : tie.Need-name-of-requires Inv-loop μ-loop
 name-of-requires c κs = search needs
@@ -75,6 +75,9 @@ part-feed-start c = search needs
 part-feed-end : tie.Need-part-feed-end Inv-loop μ-loop
 part-feed-end c = search needs
 
+slice-aggregate-feed : tie.Need-slice-aggregate-feed Inv-loop μ-loop
+slice-aggregate-feed c = search needs
+
 feed-requires : tie.Need-feed-requires Inv-loop μ-loop
 feed-requires c κs = search needs
 
@@ -88,7 +91,7 @@ goes-on-requires : tie.Need-goes-on-requires Inv-loop μ-loop
 goes-on-requires c κs = search needs
 
 turns-left-requires-2 : tie.Need-turns-left-requires-2 Inv-loop μ-loop
-turns-left-requires-2 c κs = turnOf (c .before .before .before .before .before .before) .loop-test .taken
+turns-left-requires-2 c κs = turnOf (c .before .before .before .before .before) .loop-test .taken
 
 loop-less : tie.Need-loop-less Inv-loop μ-loop
 loop-less c = search needs
@@ -96,11 +99,11 @@ loop-less c = search needs
 loop-again : tie.Need-loop-again Inv-loop μ-loop
 loop-again c =
     let p = c .before .before .before .before in
-    let f = p .before .before in
-    let g = f .before .before .before .before in
-    let o = turnOf (f .before) .before .loop .inv in (
+    let m = p .before .before in
+    let g = m .before .before .before .before .before in
+    let o = turnOf m .before .loop .inv in (
       omega (arith, o .0, g .piece2 .given),
-      f .feed .ensures .1 .1 .1,
+      omega (arith, o .1, m .numbers2 .given),
       p .pass .ensures .0,
       omega (arith, p .pass .ensures .1, g .before .fill .ensures .1, o .0),
       o .4,
@@ -141,6 +144,7 @@ sum-file-spec =
     sub-feed
     part-feed-start
     part-feed-end
+    slice-aggregate-feed
     feed-requires
     pass-requires
     show-progress-requires

@@ -1,18 +1,13 @@
--- `summary::sum_files` meets its contract: what it hands on lies in its buffers. Assumes nothing.
-use Prim.Native.Nat.{_+_, _≤_}
-use mathlib.Core.Path.{_≡_}
-use native.Mathlib.Omega.{arith}
-use lib.ListN.{length}
+-- `summary::sum_files` meets its contract: what it writes lies in its buffers. Assumes nothing.
 use borrow.Author.Needs.{needs}
 use Rattle.summary.proofs.sum_files.Statement.{statement}
 use Rattle.summary.proofs.sum_files.Tie as tie
 
 abbrev Inv-loop : tie.InvT-loop
-Inv-loop first end s₀ name₀ pace₀ failed₀ file₀ turns₀ t17 t18 s name pace failed file turns =
-    (name .size ≤ 4096) × (length (name .bytes) ≡ 4096)
+Inv-loop first end s₀ name₀ pace₀ failed₀ file₀ turns₀ t15 t16 s name pace failed file turns = Unit {0}
 
 abbrev μ-loop : tie.MeasureT-loop
-μ-loop first end s₀ name₀ pace₀ failed₀ file₀ turns₀ t17 t18 s name pace failed file turns = turns
+μ-loop first end s₀ name₀ pace₀ failed₀ file₀ turns₀ t15 t16 s name pace failed file turns = turns
 
 begin-requires : tie.Need-begin-requires Inv-loop μ-loop
 begin-requires c κs = search needs
@@ -55,15 +50,6 @@ no-page-requires c κs = search needs
 
 no-page-requires-2 : tie.Need-no-page-requires-2 Inv-loop μ-loop
 no-page-requires-2 c κs = search needs
-
-sub-close : tie.Need-sub-close Inv-loop μ-loop
-sub-close c = search needs
-
-part-close-start : tie.Need-part-close-start Inv-loop μ-loop
-part-close-start c = search needs
-
-part-close-end : tie.Need-part-close-end Inv-loop μ-loop
-part-close-end c = search needs
 
 close-requires : tie.Need-close-requires Inv-loop μ-loop
 close-requires c κs = search needs
@@ -115,9 +101,6 @@ sum-files-spec =
     returns
     no-page-requires
     no-page-requires-2
-    sub-close
-    part-close-start
-    part-close-end
     close-requires
     slice-aggregate-write
     sub-write
