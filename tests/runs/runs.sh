@@ -164,7 +164,7 @@ done
 # summary: the rows with a submission, the line without class, the end
 rows() { tell $run summary "$@" | grep -v ' 0 0 0 0 0 0/0$'; }
 head1="planner class submitted taken rejected refused waited taken/submitted"
-$run record crates/record/stdin >"$work/listing"
+$run record tests/listing/listing.txt >"$work/listing"
 for name in table1 laxity full; do $run record tests/summary/$name.txt >"$work/$name"; done
 check "summary of 01's listing" "$head1
 stuffing A 2 2 0 0 2 2/2
@@ -273,6 +273,8 @@ fi
 for program in plan record ask summary; do
     check "$program --help" "$program" "$($run $program --help | awk 'NR == 1 { print $1 }')"
     check "$program --help has the answers" "  3 no such planner" "$($run $program --help | grep '^  3 ')"
+    example=$($run $program --help | sed -n 's/^example: //p')
+    check "$program --help: its example runs" "yes" "$(bash -o pipefail -c "${example//.\/run/$run}" 2>&1 >"$work/out" && [ -s "$work/out" ] && echo yes || echo no)"
     check "$program with a stray argument" "!
 usage: $program" "$(tell $run $program --stray | sed -n '1p; 2s/^\(usage: [a-z]*\) .*/\1/p')"
 done

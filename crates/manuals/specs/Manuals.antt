@@ -121,7 +121,7 @@ summaryHead =
     ++ ascii "           standard input, and writes their sum\n"
     ++ ascii "  --help   writes this\n"
     ++ ascii "\n"
-    ++ ascii "example: ./run record tests/listing/listing.txt | ./run summary\n"
+    ++ ascii "example: ./run record tests/summary/table1.txt | ./run summary\n"
     ++ ascii "\n"
 
 unfoldable pub summaryHelp : List ℕ
