@@ -113,7 +113,8 @@ rest-says {s} {last} c k name =
     let n : last .reader .number - last .before ≡ s .reader .number - s .before = ap₂ (λ x y. x - y) (k .number) (k .before) in
     let here = shut-end (s .reader) c in
     let there = shut-end (last .reader) (k .end .shut) in (
-      ap₂ (λ ns x. sheetText ns ++ x) (k .figures) (ap₂ (stopWords name) n there ∙ k .end .words name (s .reader .number - s .before) ∙ ap (stopWords name (s .reader .number - s .before)) (sym here)),
+      ap₂ (λ ns x. sheetText ns ++ x) (k .figures) (ap₂ (stopWords name) n there
+          ∙ k .end .words name (s .reader .number - s .before) ∙ ap (stopWords name (s .reader .number - s .before)) (sym here)),
       ap₂ (stopSaid name) n there ∙ k .end .said name (s .reader .number - s .before) ∙ ap (stopSaid name (s .reader .number - s .before)) (sym here),
       ap whole? there ∙ k .end .whole ∙ ap whole? (sym here),
     )
