@@ -166,6 +166,9 @@ rows() { tell $run summary "$@" | grep -v ' 0 0 0 0 0 0/0$'; }
 head1="planner class submitted taken rejected refused waited taken/submitted"
 $run record tests/listing/listing.txt >"$work/listing"
 for name in table1 laxity full; do $run record tests/summary/$name.txt >"$work/$name"; done
+for name in listing table1 laxity full; do
+    check "crates/summary/data/$name.rec is the text's records" "$(od -An -tx1 "$work/$name")" "$(od -An -tx1 crates/summary/data/$name.rec)"
+done
 check "summary of 01's listing" "$head1
 stuffing A 2 2 0 0 2 2/2
 stuffing Other 1 0 1 0 0 0/1

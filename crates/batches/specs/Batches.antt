@@ -1,7 +1,7 @@
 -- What `summary` is told by its arguments: `--help`, `--add`, FILE .. Assumes nothing.
 use Prim.Native.Nat.{ℕ}
 use mathlib.Core.Bool.{true, false, cond}
-use mathlib.Core.List.{List, [], _∷_}
+use mathlib.Core.List.{List, []}
 use lib.ListN.{take}
 use Rattle.text.specs.Text.{ascii}
 use Rattle.tokens.specs.Tokens.{same}

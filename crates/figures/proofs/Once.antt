@@ -1,15 +1,15 @@
 -- EACH SUBMISSION IS TOLD ONCE: in a row those taken, rejected and refused are those submitted; all rows and the line without class together are all submissions. Assumes nothing.
-use Prim.Native.Nat.{ℕ, zero, suc, _+_, _-_, _*_, _/_, _%_, _≤_, _<_}
+use Prim.Native.Nat.{ℕ, zero, suc, _+_, _-_, _*_, _/_, _%_, _<_}
 use mathlib.Core.Path.{_≡_, refl, sym, ap, ap₂, _∙_, subst}
-use mathlib.Core.Bool.{Bool, true, false, cond, not, _&&_}
-use mathlib.Core.List.{List, [], _∷_, _++_, List·Memᴰ·append-cases}
+use mathlib.Core.Bool.{Bool, true, false, cond, _&&_}
+use mathlib.Core.List.{List, [], _∷_, List·Memᴰ·append-cases}
 use mathlib.Core.List.{List·Memᴰ·head as here, List·Memᴰ·tail as there, List·Memᴰ·cases-cons as cases, List·Memᴰ·not-nil as nowhere}
 use mathlib.Core.Logic.{_⊎_, inl, inr}
 use native.Mathlib.Decide.{decLt}
 use native.Mathlib.Omega.{arith}
 use borrow.Author.Tests.{lt-ltb, le-ltb, eq-eqb, ne-eqb}
-use lib.Dec.{T, ltb, eqb, ltb→lt}
-use lib.ListN.{length, getD, length-append}
+use lib.Dec.{ltb, eqb, ltb→lt}
+use lib.ListN.{length, getD}
 use Rattle.lists.specs.Lists.{_∈_, keep, each, range}
 use Rattle.lists.proofs.Bools.{and-r}
 use Rattle.lists.proofs.Members.{keep-in}

@@ -1,6 +1,6 @@
 -- Line by line: what the loop of `figures::count_rows` has counted, and what is left. Assumes nothing.
-use Prim.Native.Nat.{ℕ, zero, suc, _+_, _-_, _*_, _≤_, _<_}
-use mathlib.Core.Path.{_≡_, refl, sym, ap, ap₂, _∙_, subst}
+use Prim.Native.Nat.{ℕ, suc, _+_, _-_, _*_, _≤_, _<_}
+use mathlib.Core.Path.{_≡_, refl, sym, ap, ap₂, _∙_}
 use mathlib.Core.List.{List, [], _∷_, _++_, append-nil, append-assoc}
 use mathlib.Core.List.{List·Memᴰ·cases-cons as cases, List·Memᴰ·not-nil as nowhere}
 use mathlib.Core.Logic.{_⊎_, inl, inr}

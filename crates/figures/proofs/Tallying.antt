@@ -1,8 +1,8 @@
 -- Event by event: what `figures::count_event` has counted. Assumes nothing.
-use Prim.Native.Nat.{ℕ, zero, suc, _+_, _-_, _*_, _≤_, _<_}
-use mathlib.Core.Path.{_≡_, refl, sym, ap, ap₂, _∙_, subst}
+use Prim.Native.Nat.{ℕ, _+_, _-_, _<_}
+use mathlib.Core.Path.{_≡_, sym, ap, _∙_}
 use mathlib.Core.Bool.{Bool, true, false, cond, _&&_}
-use mathlib.Core.List.{List, [], _∷_, _++_, append-nil}
+use mathlib.Core.List.{List, [], _∷_, append-nil}
 use native.Mathlib.Omega.{arith}
 use lib.Dec.{leb, eqb}
 use lib.ListN.{length, getD, length-set}
@@ -12,7 +12,6 @@ use Rattle.sheets.specs.Sheets.{plus}
 use Rattle.sheets.proofs.Laws.{plus-assoc}
 use Rattle.events.specs.declared.Reading.the-variants.{Got}
 use Rattle.events.specs.declared.Event.{Event}
-use Rattle.events.specs.declared.Event.the-variants.{NewBoard, Submit, Clock, Withdraw}
 use Rattle.figures.specs.declared.Verdict.{Verdict}
 use Rattle.figures.specs.Figures.{fateOf, verdictOf, verdicts, sheetWith, sheetOf}
 use Rattle.figures.specs.Rows.{Roomy, bumped, trialRead}

@@ -1,33 +1,31 @@
 -- SUMMARIES ADD UP: what `summary --add` prints of the summaries of groups of files is the summary of all the files. Assumes nothing.
-use Prim.Native.Nat.{ℕ, zero, suc, _+_, _-_, _*_, _≤_, _<_}
-use mathlib.Core.Path.{_≡_, refl, sym, ap, ap₂, _∙_, subst}
-use mathlib.Core.Bool.{Bool, true, false, cond, _&&_}
+use Prim.Native.Nat.{ℕ, zero, suc, _+_, _-_, _≤_, _<_}
+use mathlib.Core.Path.{_≡_, refl, sym, ap, ap₂, _∙_}
+use mathlib.Core.Bool.{true, false}
 use mathlib.Core.List.{List, [], _∷_, _++_, map, append-nil, append-assoc, List·Memᴰ·append-cases}
 use mathlib.Core.List.{List·Memᴰ·not-nil as nowhere}
 use mathlib.Core.Logic.{_⊎_, inl, inr}
 use native.Mathlib.Nat.{mul-le-mul-right}
 use native.Mathlib.Omega.{arith}
 use borrow.Author.Tests.{lt-ltb}
-use lib.Dec.{ltb}
 use lib.ListN.{length, getD, drop, length-append}
 use Rattle.lists.specs.Lists.{_∈_, keep, all?, each, range}
 use Rattle.tasks.specs.Numbers.{lastInstant}
 use Rattle.text.specs.Text.{ascii}
-use Rattle.events.specs.declared.Event.{Event}
 use Rattle.events.specs.declared.Reading.{Reading}
 use Rattle.events.specs.declared.Reading.the-variants.{End, Got, CutShort, Unknown}
 use Rattle.events.specs.Records.{readFrom}
 use Rattle.steps.specs.declared.State.{State}
 use Rattle.session.specs.Recording.{outcome, Story, storyFrom, mostEvents, firstState}
 use Rattle.session.proofs.Recorded.{story-got, story-end, story-cut, story-strange}
-use Rattle.sheets.specs.Sheets.{plus, fits?, sheetText}
+use Rattle.sheets.specs.Sheets.{fits?, sheetText}
 use Rattle.figures.specs.Figures.{Trial, trialsFrom, verdicts, of, came, waitedIn, figuresOf, sheetWith, sheetOf}
 use Rattle.figures.proofs.Laws.{figures-add, figures-length, figures-most}
 use Rattle.figures.proofs.Once.{row-told}
 use Rattle.summing.specs.Summary.{File, whole?, Sum, before, storyOf, sumFrom, summaryText}
 use Rattle.summing.proofs.Events.{trials-length, starts-in-time, whole-few}
 use Rattle.summing.proofs.Whole.{whole-on}
-use Rattle.adding.specs.Adding.{wholeText, Good, AllGood, Holds, TextsHold, no-text, next-text, sumOf, noFigures, total}
+use Rattle.adding.specs.Adding.{wholeText, Good, AllGood, TextsHold, no-text, next-text, sumOf, noFigures, total}
 use Rattle.adding.specs.Machine.{begunState, textsAdded, closing}
 use Rattle.adding.proofs.Given.{prints}
 

@@ -1,6 +1,5 @@
 -- The cases of request Q-1 hold: the checker computes them from the definitions. Assumes nothing.
 use mathlib.Core.Path.{_≡_, refl}
-use mathlib.Core.Bool.{true}
 use mathlib.Core.List.{[], _∷_, _++_, map}
 use Rattle.text.specs.Text.{ascii}
 use Rattle.events.specs.declared.Event.the-variants.{NewBoard}

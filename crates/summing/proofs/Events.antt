@@ -1,8 +1,8 @@
 -- Events one behind the other: states, starts, and figures that fit. Assumes nothing.
-use Prim.Native.Nat.{ℕ, zero, suc, _+_, _-_, _*_, _%_, _≤_, _<_, min}
+use Prim.Native.Nat.{ℕ, zero, suc, _+_, _-_, _≤_, _<_, min}
 use mathlib.Core.Path.{_≡_, refl, sym, ap, ap₂, _∙_, subst}
-use mathlib.Core.Bool.{Bool, true, false, cond}
-use mathlib.Core.List.{List, [], _∷_, _++_, map, append-nil, append-assoc, List·Memᴰ·append-cases}
+use mathlib.Core.Bool.{true, false}
+use mathlib.Core.List.{List, [], _∷_, _++_}
 use mathlib.Core.List.{List·Memᴰ·cases-cons as cases, List·Memᴰ·not-nil as nowhere}
 use mathlib.Core.Logic.{_⊎_, inl, inr}
 use native.Mathlib.Nat.{mul-le-mul-right, mod-eq-of-lt}
@@ -10,9 +10,7 @@ use native.Mathlib.Omega.{arith}
 use lib.ListN.{length, getD, take, drop, length-append}
 use Rattle.lists.specs.Lists.{_∈_}
 use Rattle.tasks.specs.Numbers.{lastInstant}
-use Rattle.text.specs.Text.{ascii}
-use Rattle.text.specs.Output.{Output}
-use Rattle.sheets.specs.Sheets.{plus, wrapped, sheetText}
+use Rattle.sheets.specs.Sheets.{wrapped}
 use Rattle.board.specs.declared.Answer.{Answer}
 use Rattle.board.specs.declared.Answer.the-variants.{Rejected, Placed, Refused}
 use Rattle.board.specs.Answers.{told}
@@ -24,22 +22,15 @@ use Rattle.events.specs.declared.Reading.{Reading}
 use Rattle.events.specs.declared.Reading.the-variants.{End, Got, CutShort, Unknown}
 use Rattle.events.specs.Records.{readFrom, submissionOf}
 use Rattle.steps.specs.declared.State.{State}
-use Rattle.session.specs.declared.Ending.{Ending}
-use Rattle.session.specs.declared.Ending.the-variants.{NotYet, AtEnd, In15, In16, AtLast, PastLast}
-use Rattle.session.specs.Recording.{Line, stopLine, outcome, Story, storyFrom, Run, still, ranFrom, roomFor, mostEvents, firstState}
+use Rattle.session.specs.Recording.{stopLine, outcome, Story, storyFrom, Run, still, ranFrom, roomFor, mostEvents}
 use Rattle.session.proofs.Running.{ran-got}
 use Rattle.session.proofs.Recorded.{run-few, story-got, story-cut, story-strange, story-end}
 use Rattle.reader.specs.declared.Reader.{Reader}
-use Rattle.reader.specs.Reader.{firstReader, heldOf, Heard, heardOver, open?, heard, endOf}
+use Rattle.reader.specs.Reader.{heldOf, Heard, heardOver, heard}
 use Rattle.reader.proofs.Cases.{over-by, heard-by}
-use Rattle.reader.proofs.Cuts.{restOf, Sane, first-sane, closing, closed-tells, heard-goes, Reads, done, feed, reads-tell}
-use Rattle.reader.proofs.Counts.{reads-number}
-use Rattle.stops.specs.Stops.{stopWords, stopSaid}
 use Rattle.figures.specs.Figures.{Trial, trialsFrom, sheetOf}
-use Rattle.figures.proofs.Laws.{figures-add, figures-most}
-use Rattle.summing.specs.declared.Summing.{Summing}
-use Rattle.summing.specs.Summary.{File, whole?, Sum, before, stopsIn, storyOf, sumFrom, summaryText}
-use Rattle.summing.specs.Summing.{firstSumming, readerAt, nextFile, summed, fileEnd, sumText, sumSaid}
+use Rattle.figures.proofs.Laws.{figures-most}
+use Rattle.summing.specs.Summary.{whole?}
 
 -- EVENTS ONE BEHIND THE OTHER
 unfoldable pub stateAfter : State → List Event → State

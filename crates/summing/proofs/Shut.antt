@@ -7,7 +7,6 @@ use native.Mathlib.Omega.{arith}
 use lib.Dec.{eqb}
 use lib.ListN.{length, drop}
 use lib.Seq.{drop-length}
-use Rattle.text.specs.Output.{Output}
 use Rattle.sheets.proofs.Laws.{length-plus}
 use Rattle.figures.proofs.Laws.{figures-length}
 use Rattle.sheets.specs.Sheets.{plus, wrapped, sheetText}

@@ -1,14 +1,13 @@
 -- The lines of a piece, from their numbers to events with now before them and their answers. Assumes nothing.
-use Prim.Native.Nat.{ℕ, zero, suc, _+_, _-_, _*_, _≤_, _<_, min}
-use mathlib.Core.Path.{_≡_, refl, sym, ap, ap₂, _∙_, subst}
-use mathlib.Core.Bool.{Bool, true, false, cond}
-use mathlib.Core.List.{List, [], _∷_, _++_, append-nil, append-assoc}
+use Prim.Native.Nat.{ℕ, zero, suc, _+_, _-_, _<_, min}
+use mathlib.Core.Path.{_≡_, refl, sym, ap, _∙_, subst}
+use mathlib.Core.Bool.{cond}
+use mathlib.Core.List.{List, [], _∷_, _++_, append-nil}
 use mathlib.Core.Option.{Option, none, some}
-use native.Mathlib.Decide.{ℕ-discrete as decEq}
 use native.Mathlib.Omega.{arith}
 use borrow.Author.Tests.{eq-eqb, ne-eqb}
 use lib.Dec.{eqb}
-use lib.ListN.{length, getD, take, drop}
+use lib.ListN.{length, take, drop}
 use lib.Seq.{drop-drop}
 use Rattle.tasks.specs.declared.Submission.{Submission}
 use Rattle.planners.specs.Openings.{Place}
@@ -18,7 +17,6 @@ use Rattle.board.specs.declared.Created.{Created}
 use Rattle.board.specs.declared.Clocked.{Clocked}
 use Rattle.board.specs.declared.Withdrawn.{Withdrawn}
 use Rattle.board.specs.declared.Answer.the-variants.{Refused}
-use Rattle.board.specs.Answers.{told}
 use Rattle.slots.specs.Slots.{withoutNamed}
 use Rattle.board.specs.Refusals.{liveOf, refusedCreate, refusedSubmit, refusedInstant, refusedWithdraw}
 use Rattle.board.specs.Calls.{orRefused, withTasks, freshBoard, created, withTask, taken, answered, submitted, boardAt, clocked, withdrawn}

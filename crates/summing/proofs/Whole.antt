@@ -1,47 +1,34 @@
 -- FOR EVERY WAY TO CUT THE FILES INTO PIECES: what `summary` writes is the text of the whole, and no figure wraps. Assumes nothing.
-use Prim.Native.Nat.{ℕ, zero, suc, _+_, _-_, _*_, _%_, _≤_, _<_, min}
+use Prim.Native.Nat.{ℕ, suc, _+_, _-_, _≤_, _<_}
 use mathlib.Core.Path.{_≡_, refl, sym, ap, ap₂, _∙_, subst}
-use mathlib.Core.Bool.{Bool, true, false, cond}
-use mathlib.Core.List.{List, [], _∷_, _++_, map, append-nil, append-assoc, List·Memᴰ·append-cases}
-use mathlib.Core.List.{List·Memᴰ·cases-cons as cases, List·Memᴰ·not-nil as nowhere}
+use mathlib.Core.Bool.{true, false}
+use mathlib.Core.List.{List, [], _∷_, _++_, append-nil, append-assoc, List·Memᴰ·append-cases}
+use mathlib.Core.List.{List·Memᴰ·not-nil as nowhere}
 use mathlib.Core.Logic.{_⊎_, inl, inr}
-use native.Mathlib.Nat.{mul-le-mul-right, mod-eq-of-lt}
 use native.Mathlib.Omega.{arith}
-use lib.ListN.{length, getD, take, drop, length-append}
+use lib.ListN.{length, drop, length-append}
 use Rattle.lists.specs.Lists.{_∈_}
 use Rattle.tasks.specs.Numbers.{lastInstant}
 use Rattle.text.specs.Text.{ascii}
 use Rattle.text.specs.Output.{Output}
 use Rattle.sheets.specs.Sheets.{plus, wrapped, sheetText}
-use Rattle.board.specs.declared.Answer.{Answer}
-use Rattle.board.specs.declared.Answer.the-variants.{Rejected, Placed, Refused}
 use Rattle.board.specs.Answers.{told}
-use Rattle.board.specs.Calls.{submitted}
-use Rattle.board.proofs.Placed.{placed-books}
 use Rattle.events.specs.declared.Event.{Event}
-use Rattle.events.specs.declared.Event.the-variants.{NewBoard, Submit, Clock, Withdraw}
-use Rattle.events.specs.declared.Reading.{Reading}
-use Rattle.events.specs.declared.Reading.the-variants.{End, Got, CutShort, Unknown}
-use Rattle.events.specs.Records.{readFrom, submissionOf}
-use Rattle.steps.specs.declared.State.{State}
+use Rattle.events.specs.Records.{readFrom}
 use Rattle.session.specs.declared.Ending.{Ending}
 use Rattle.session.specs.declared.Ending.the-variants.{NotYet, AtEnd, In15, In16, AtLast, PastLast}
-use Rattle.session.specs.Recording.{Line, outcome, Story, storyFrom, Run, still, ranFrom, roomFor, mostEvents, firstState}
-use Rattle.session.proofs.Running.{ran-got}
-use Rattle.session.proofs.Recorded.{run-few}
-use Rattle.session.proofs.Recorded.{told as tells, story-got}
-use Rattle.reader.specs.declared.Reader.{Reader}
+use Rattle.session.specs.Recording.{Line, Story, mostEvents, firstState}
+use Rattle.session.proofs.Recorded.{told as tells}
 use Rattle.reader.specs.Reader.{firstReader, Heard, open?, heard, endIn, endOf}
-use Rattle.reader.proofs.Cases.{over-by, heard-by}
-use Rattle.reader.proofs.Cuts.{restOf, Sane, first-sane, closing, closed-tells, heard-goes, heard-takes, Reads, done, feed, reads-tell}
-use Rattle.reader.proofs.Counts.{heard-counts, reads-number}
+use Rattle.reader.proofs.Cuts.{restOf, Sane, first-sane, closing, closed-tells, heard-takes, Reads, done, feed, reads-tell}
+use Rattle.reader.proofs.Counts.{heard-counts}
 use Rattle.stops.specs.Stops.{stopWords, stopSaid}
 use Rattle.figures.specs.Figures.{Trial, trialsFrom, sheetOf}
-use Rattle.figures.proofs.Laws.{figures-add, figures-most}
+use Rattle.figures.proofs.Laws.{figures-add}
 use Rattle.summing.specs.declared.Summing.{Summing}
 use Rattle.summing.specs.Summary.{File, whole?, Sum, before, stopsIn, storyOf, sumFrom, summaryText}
 use Rattle.summing.specs.Summing.{firstSumming, readerAt, nextFile, summed, fileEnd, sumText, sumSaid}
-use Rattle.summing.proofs.Events.{Leaves, stateAfter, trials-append, trials-length, heard-leaves, starts-in-time, figures-fit, whole-few}
+use Rattle.summing.proofs.Events.{Leaves, trials-append, trials-length, heard-leaves, starts-in-time, figures-fit, whole-few}
 
 -- A WAY TO READ A FILE: a piece of what is left, with any room for its lines, until no byte is left; the machine at its end
 pub data Feeds : Summing → List ℕ → Summing → Type 0 where

@@ -1,6 +1,5 @@
 -- The machine of `summary`: where it stands between two pieces, and what a piece adds. Assumes nothing.
 use Prim.Native.Nat.{ℕ, _-_}
-use mathlib.Core.Bool.{Bool}
 use mathlib.Core.List.{List, [], _++_}
 use lib.ListN.{length}
 use Rattle.sheets.specs.Sheets.{plus, wrapped, sheetText}

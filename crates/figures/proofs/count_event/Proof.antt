@@ -1,7 +1,7 @@
 -- `figures::count_event` meets its contract. Assumes nothing.
 use Prim.Native.Nat.{_<_}
-use mathlib.Core.Path.{_≡_, refl, sym, ap, _∙_, subst}
-use mathlib.Core.List.{[], _∷_}
+use mathlib.Core.Path.{sym, ap, _∙_, subst}
+use mathlib.Core.List.{[]}
 use native.Mathlib.Omega.{arith}
 use borrow.Author.Tests.{eq-eqb, ne-eqb}
 use Rattle.laxity.specs.Laxity.{classOf}

@@ -1,5 +1,5 @@
 -- `summing::begin_file` meets its contract. Assumes nothing.
-use mathlib.Core.Path.{_≡_, ap, _∙_}
+use mathlib.Core.Path.{ap, _∙_}
 use Rattle.sheets.specs.declared.Sums.{Sums}
 use Rattle.sheets.specs.Sheets.{plus, wrapped}
 use Rattle.summing.specs.Summing.{nextFile}

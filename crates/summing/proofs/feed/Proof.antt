@@ -1,5 +1,5 @@
 -- `summing::feed` meets its contract. Assumes nothing.
-use mathlib.Core.Path.{_≡_, refl}
+use mathlib.Core.Path.{refl}
 use lib.ListN.{length}
 use borrow.Author.Needs.{needs}
 use Rattle.summing.proofs.Feeding.{feeds, counts-few}
