@@ -11,8 +11,9 @@
 #
 # What is printed must be equal, and so must the message on a recording that ends in 15 or 16; after a wrong question both
 # print nothing, and something on standard error. Numbers are drawn about the board's own: its sizes, its clock, the starts and
-# finishes of its tasks, and the edges of every range. Ends with 0 if all is equal; with 1 at the first difference, and keeps
-# the recording and both outputs in the temporary folder that it names; with 2 for a wrong call.
+# finishes of its tasks, and the edges of every range; deadlines of openings also at the limit of laxity (10,000,000, Q-2), beside
+# it and far beyond, and pairs to start after at the end of the window. Ends with 0 if all is equal; with 1 at the first difference,
+# and keeps the recording and both outputs in the temporary folder that it names; with 2 for a wrong call.
 set -u
 here=$(cd "$(dirname "$0")" && pwd -P)
 fail() { echo "ask.sh: $*" >&2; exit 2; }
@@ -48,7 +49,7 @@ instant() {
 
 # what is asked, in `words`
 question() {
-    local w h e d
+    local w h e d limit after
     case $((RANDOM % 10)) in
         0) words=(horizon) ;;
         1) words=(board) ;;
@@ -61,9 +62,17 @@ question() {
             w=$(one_of 1 1 2 3 "$W" $((W + 1)) 0 65535 $((1 + RANDOM % (W + 1))))
             h=$(one_of 1 1 1 1 "$H" $((H + 1)) 0)
             e=$(one_of 1 2 7 100 $((1 + RANDOM % 40)) 1000000 1000001 0)
-            d=$(one_of $((now + e)) $((now + e + RANDOM % 60)) $((now + e + RANDOM)) $((now + e + 1)) $((now + e > 0 ? now + e - 1 : 0)) 2000000000 2000000001)
+            limit=$((now + e + 10000000))
+            if [ $((RANDOM % 2)) -eq 0 ]; then # about the limit of laxity, or up to it as far as there are deadlines
+                d=$(one_of "$limit" "$limit" $((limit - 1)) $((limit + 1)) $((limit + 1)) $((limit + 2 + RANDOM)) $((limit - RANDOM)) $((limit + RANDOM * 50000)) $((limit < 2000000000 ? limit : 2000000000)))
+                [ "$d" -le 4294967295 ] || d=4294967295
+            else
+                d=$(one_of $((now + e)) $((now + e + RANDOM % 60)) $((now + e + RANDOM)) $((now + e + 1)) $((now + e > 0 ? now + e - 1 : 0)) 2000000000 2000000001)
+            fi
             words=(openings "$w" "$h" "$e" "$d")
-            [ $((RANDOM % 3)) -eq 0 ] || words+=("$(instant)" "$(one_of 0 1 "$W" 65535 $((RANDOM % (W + 2))))")
+            after=$(instant)
+            if [ $((RANDOM % 4)) -eq 0 ]; then after=$((d - e - 1 + RANDOM % 3)); after=$((after < 0 || after > 4294967295 ? 0 : after)); fi # about the last start
+            [ $((RANDOM % 3)) -eq 0 ] || words+=("$after" "$(one_of 0 1 "$W" 65535 $((RANDOM % (W + 2))))")
             [ ${#words[@]} -eq 5 ] || [ $((RANDOM % 3)) -eq 0 ] || words+=("$(one_of 0 1 2 $((RANDOM % 20)) 2976 2977 5952 $((RANDOM % 9000)))")
             ;;
     esac
@@ -73,8 +82,8 @@ wrong=("" "x" "horizon 1" "Horizon" "board 0" "busy" "busy 4294967296" "busy -1"
 
 ${RUN:-} "$ask" </dev/null >"$work/got" 2>"$work/got.err"
 [ ! -s "$work/got" ] && grep -q '^usage: ask' "$work/got.err" || { echo "differs: no usage where there is no argument" >&2; exit 1; }
-asked=0 refused=0 unanswered=0 wrongs=0 rows=0
-profiles=(tiny paper wide crowded late bounds cut mixed)
+asked=0 refused=0 lax=0 unanswered=0 wrongs=0 rows=0
+profiles=(tiny paper wide crowded late bounds lax cut mixed)
 for ((r = 0; r < recordings; r++)); do
     profile=${profiles[$((r % ${#profiles[@]}))]}
     "$work/generate" "$profile" $((seed + r)) $((1 + RANDOM % 300)) >"$work/recording" || fail "the generator failed"
@@ -117,8 +126,9 @@ for ((r = 0; r < recordings; r++)); do
         if [ -s "$work/want" ]; then
             read -r _ n <"$work/want"
             [ "$n" = 0 ] || refused=$((refused + 1))
+            [ "$n" != 18 ] || lax=$((lax + 1))
             rows=$((rows + $(wc -l <"$work/want") - 1))
         fi
     done
 done
-echo "$recordings recordings, $asked questions, all equal: $rows rows, $refused refusals, $unanswered not answered (15 or 16), $wrongs wrong questions; seed $seed"
+echo "$recordings recordings, $asked questions, all equal: $rows rows, $refused refusals ($lax of them 18), $unanswered not answered (15 or 16), $wrongs wrong questions; seed $seed"

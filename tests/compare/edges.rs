@@ -1,6 +1,7 @@
 //! edges: a fixed recording (event records on standard output): the edges of every number range of document 01, its cases 10, 11
-//! and 12, and every set of refusals that one submission can have at once, on the board of zeros, on a board with one task and on
-//! one with 64. `crates/plan/stdin` begins with it; `second` says what `plan` has to print.
+//! and 12, the limit of laxity of request Q-2 (document 02), and every set of refusals that one submission can have at once, on the
+//! board of zeros, on a board with one task and on one with 64. `crates/plan/stdin` begins with it; `second` says what `plan` has to
+//! print.
 //! Build: `rustc -O --edition 2021 tests/compare/edges.rs -o edges` (std only).
 
 use std::io::Write;
@@ -33,6 +34,8 @@ impl Tape {
 }
 
 const LAST: u32 = 2_000_000_000;
+/// The largest laxity that passes.
+const LAX: u32 = 10_000_000;
 
 /// W and H at and beside their limits, each with a call that needs a sound board.
 fn devices(t: &mut Tape) {
@@ -65,9 +68,69 @@ fn fields(t: &mut Tape) {
             one(7, 3, h, 4, 100);
         }
         for e in [0, 1, 999_999, 1_000_000, 1_000_001, u32::MAX] {
-            for d in [0, 5, 6, 7, 1_000_004, 1_000_005, 1_000_006, LAST - 1, LAST, LAST + 1, u32::MAX] {
+            for d in [0, 5, 6, 7, 1_000_004, 1_000_005, 1_000_006, LAX + 1_000_005, LAX + 1_000_006, LAST - 1, LAST, LAST + 1, u32::MAX] {
                 one(7, 3, 3, e, d);
             }
+        }
+    }
+}
+
+/// Laxities at the limit, beside it and far beyond, and below 0, by every planner, early and late: at now 5 with e 4,
+/// d 10,000,009 is done and 10,000,010 gives 18.
+fn laxities(t: &mut Tape) {
+    for planner in 0..4 {
+        for (now, e) in [(5, 4), (0, 1), (0, 1_000_000), (1_000_000_000, 77), (LAST - LAX - 1_000_001, 1_000_000), (LAST - LAX - 1_000_000, 1_000_000)] {
+            let limit = now + e + LAX;
+            for d in [now + e - 1, now + e, limit - 1, limit, limit + 1, limit + 2, LAST - 1, LAST, LAST + 1] {
+                t.board(10, 6);
+                t.clock(now);
+                t.submit(planner, 1, 3, 3, e, d);
+                t.submit(planner, 1, 3, 3, e, d);
+                t.submit(planner, 2, 8, 3, e, d);
+            }
+        }
+    }
+}
+
+/// The last deadlines, from a late now: what was too lax before is taken here.
+fn last_deadlines(t: &mut Tape) {
+    for planner in 0..4 {
+        for now in [LAST - 1_000_000, LAST - 1, LAST] {
+            for e in [1, 999_999, 1_000_000] {
+                for d in [LAST - 1, LAST, LAST + 1] {
+                    t.board(10, 6);
+                    t.clock(now);
+                    t.submit(planner, 7, 3, 3, e, d);
+                    t.submit(planner, 7, 3, 3, e, d);
+                }
+            }
+        }
+    }
+}
+
+/// Ten tasks over all columns hold the board for as long as the limit: only its last start is left. Then the clock goes on, and
+/// the limit with it.
+fn last_start(t: &mut Tape) {
+    for planner in 0..4 {
+        for now in [0, LAST - LAX - 2_000_000] {
+            t.board(4, 1);
+            t.clock(now);
+            for id in 1..=10 {
+                t.submit(2, id, 4, 1, 1_000_000, now + 1_000_000 + LAX);
+            }
+            t.submit(planner, 11, 2, 1, 7, now + 7 + LAX - 1);
+            t.submit(planner, 12, 2, 1, 7, now + 7 + LAX + 1);
+            t.submit(planner, 13, 2, 1, 7, now + 7 + LAX);
+            t.submit(planner, 14, 2, 1, 7, now + 7 + LAX);
+            t.submit(planner, 15, 1, 1, 7, now + 7 + LAX);
+            t.submit(planner, 13, 1, 1, 7, now + 7 + LAX + 1);
+            t.clock(now + 7);
+            t.submit(planner, 16, 4, 1, 7, now + 14 + LAX + 1);
+            t.submit(planner, 17, 4, 1, 7, now + 14 + LAX - 1);
+            t.submit(planner, 18, 4, 1, 7, now + 14 + LAX);
+            t.withdraw(13);
+            t.clock(now + LAX);
+            t.submit(planner, 19, 4, 1, 1_000_000, LAST);
         }
     }
 }
@@ -97,6 +160,10 @@ fn case_11(t: &mut Tape) {
         crowd(t, planner);
         t.submit(planner, 65, 4, 1, 10, 500);
         t.submit(planner, 66, 4, 1, 10, 20);
+        // and too lax gives 18, too late 8, a live id 7
+        for (id, d) in [(65, 10 + LAX), (65, 11 + LAX), (65, LAST), (65, 9), (64, 11 + LAX), (64, 10 + LAX), (64, 9)] {
+            t.submit(planner, id, 4, 1, 10, d);
+        }
         t.clock(49);
         t.submit(planner, 67, 4, 1, 10, 500);
         t.clock(50);
@@ -111,6 +178,11 @@ fn case_12(t: &mut Tape) {
     for now in [0, 1, 7, LAST - 1, LAST] {
         t.board(4, 4);
         t.submit(3, 1, 2, 1, 5, LAST);
+        t.submit(3, 1, 2, 1, 5, 5 + LAX);
+        if now > 7 {
+            t.clock(LAST - 4);
+            t.submit(3, 1, 2, 1, 4, LAST);
+        }
         t.clock(now);
         t.clock(now);
         t.clock(now.wrapping_sub(1));
@@ -138,19 +210,21 @@ fn withdrawals(t: &mut Tape) {
     t.withdraw(2);
 }
 
-/// Every set of the refusals 3 to 8 at once, on the board as it stands: the lowest has to win, over 9 and 10 too.
+/// Every set of the refusals 3 to 8 and 18 at once, on the board as it stands: the one that is tested first has to win (3 to 8 in
+/// rising order, then 18), over 9 and 10 too.
 fn sets(t: &mut Tape) {
-    for set in 0..64u32 {
+    for set in 0..128u32 {
         let has = |bit: u32| set >> bit & 1 == 1;
-        if has(1) && has(4) {
-            continue; // no live task has the id 0
+        if has(1) && has(4) || has(5) && has(6) {
+            continue; // no live task has the id 0; no task is both too late and too lax
         }
         let planner = if has(0) { 4 } else { (set % 4) as u8 };
         let id = if has(1) { 0 } else if has(4) { 2 } else { 1000 + set };
         let w = if has(2) { 0 } else { 255 };
         let e = if has(3) { 1_000_001 } else { 100 };
-        let d = if has(5) { 10 } else { 90 };
-        t.submit(planner, id, w, 1, e, if has(3) && !has(5) { 1_500_000 } else if has(5) { d } else { 130 });
+        // now is 20, or 0 on the board of zeros
+        let d = if has(5) { 10 } else if has(6) { 20 + e + LAX + 1 } else if has(3) { 1_500_000 } else { 130 };
+        t.submit(planner, id, w, 1, e, d);
     }
 }
 
@@ -164,6 +238,9 @@ fn main() {
     sets(&mut t);
     devices(&mut t);
     fields(&mut t);
+    laxities(&mut t);
+    last_deadlines(&mut t);
+    last_start(&mut t);
     case_10(&mut t);
     case_11(&mut t);
     case_12(&mut t);

@@ -5,22 +5,25 @@
 //! Build: `rustc -O --edition 2021 tests/compare/generate.rs -o generate` (std only). It keeps a board of `model.rs` beside
 //! the recording, so that most events mean something: withdrawals of tasks that wait or run, ids that are live, clocks that
 //! move to a finish or a start, one tick before it, to now, to now - 1. Each profile has boards for one planner and boards
-//! for all four, and a few events in a hundred that are refused. Profiles:
+//! for all four, and a few events in a hundred that are refused; among them deadlines about the limit of laxity and
+//! far beyond, on any board, for live ids and where 64 tasks are live. Profiles:
 //!
 //!     tiny     1 to 6 columns, short times: many ties, many equal finishes
 //!     paper    96 x 64 and the workload of section 5.1 of the source: areas 50 to 500, aspect ratios 0.2 to 5, half of the
 //!              tasks standing, e 5 to 100, laxity of the classes A, B, C
 //!     wide     256 columns, many live tasks
 //!     crowded  near 64 live tasks: answer 9, slots that are taken again
-//!     late     times near 2,000,000,000, and windows that reach from near 0 to there
-//!     bounds   fields at the edges of their ranges and beyond, unknown planners, boards out of range
+//!     late     times near 2,000,000,000, and windows as long as the limit of laxity lets them be, at any now
+//!     bounds   fields at the edges of their ranges and beyond, unknown planners, boards out of range; half of the boards late
+//!     lax      laxities at the limit of 10,000,000 and about it, early and late: boards booked so far ahead that the last start
+//!              within the limit decides, and boards with 64 live tasks
 //!     cut      events of another profile, then a record cut short, an unknown kind or any bytes; at most EVENTS
 //!     mixed    all but cut by turns
 
 #[allow(dead_code)]
 mod model;
 
-use model::{body_length, Ask, Board, Event, Task, END_OF_TIME, LONGEST};
+use model::{body_length, Ask, Board, Event, Task, END_OF_TIME, LONGEST, MOST_LAX};
 use std::io::{self, Write};
 use std::process::exit;
 
@@ -60,15 +63,17 @@ enum Profile {
     Bounds,
     Cut,
     Mixed,
+    Lax,
 }
 
-const PLAIN: [(&str, Profile); 6] = [
+const PLAIN: [(&str, Profile); 7] = [
     ("tiny", Profile::Tiny),
     ("paper", Profile::Paper),
     ("wide", Profile::Wide),
     ("crowded", Profile::Crowded),
     ("late", Profile::Late),
     ("bounds", Profile::Bounds),
+    ("lax", Profile::Lax),
 ];
 
 /// How tasks come on one board.
@@ -81,6 +86,8 @@ struct Era {
     w: (u64, u64),
     e: (u64, u64),
     laxity: (u64, u64),
+    /// of a hundred tasks, how many have a deadline about the limit of laxity or far beyond
+    far: u64,
     /// of a hundred events, how many are meant to be refused or otherwise out of the common run
     odd: u64,
     /// of a hundred events, how many withdraw a waiting task
@@ -172,7 +179,8 @@ impl Maker {
             (w, dice.pick(1, bh), e, laxity)
         };
         let e = e.clamp(1, LONGEST.min((END_OF_TIME - now).max(1)));
-        let d = if era.profile == Profile::Late && dice.percent(12) { END_OF_TIME } else { (now + e + laxity).min(END_OF_TIME) };
+        let laxity = if era.profile == Profile::Late && dice.percent(12) { MOST_LAX } else { laxity };
+        let d = (now + e + laxity).min(END_OF_TIME);
         let id = self.fresh_id();
         Ask { id, w: w.clamp(1, bw), h: h.clamp(1, bh), e, d }
     }
@@ -184,10 +192,92 @@ impl Maker {
         }
     }
 
+    /// A deadline at the limit of laxity or beside it, or far beyond, as one with a digit too many.
+    fn far_deadline(&mut self, e: u64) -> u64 {
+        let limit = self.board.now + e + MOST_LAX;
+        let d = match self.dice.pick(0, 15) {
+            0..=4 => limit,
+            5 => limit - 1,
+            6 => limit - self.dice.pick(2, 100_000),
+            _ => return self.too_far(e),
+        };
+        // out of range where the board is late, so mostly the last deadline then
+        if self.dice.percent(90) {
+            d.min(END_OF_TIME)
+        } else {
+            d
+        }
+    }
+
+    /// A deadline beyond the limit of laxity; where now leaves no room for one, mostly the last deadline, otherwise one out of
+    /// range.
+    fn too_far(&mut self, e: u64) -> u64 {
+        let limit = self.board.now + e + MOST_LAX;
+        if limit >= END_OF_TIME && self.dice.percent(70) {
+            return END_OF_TIME;
+        }
+        let d = match self.dice.pick(0, 9) {
+            0..=3 => limit + 1,
+            4 => limit + self.dice.pick(2, 100_000),
+            5 => self.dice.pick(limit + 1, END_OF_TIME.max(limit + 1)),
+            6 => (10 * limit).min(END_OF_TIME),
+            7 => END_OF_TIME - 1,
+            _ => END_OF_TIME,
+        };
+        d.min(u32::MAX as u64)
+    }
+
     fn submit(&mut self, era: &Era) {
-        let ask = self.ask(era);
+        let mut ask = self.ask(era);
         let planner = self.planner(era);
+        if self.dice.percent(era.far) {
+            ask.d = self.far_deadline(ask.e);
+        }
         self.emit(Event::Submit { planner, ask });
+    }
+
+    /// 62 to 64 tasks side by side that end late, then tasks that have no slot, or a last one.
+    fn crowd(&mut self, era: &Era) {
+        let planner = self.planner(era);
+        for _ in 0..self.dice.pick(62, 64) {
+            let mut ask = self.ask(era);
+            ask.w = 1;
+            ask.e = ask.e.max(era.e.1 / 2);
+            ask.d = (self.board.now + ask.e + self.dice.pick(0, MOST_LAX)).min(END_OF_TIME);
+            self.emit(Event::Submit { planner, ask });
+        }
+        for _ in 0..self.dice.pick(4, 12) {
+            match self.dice.pick(0, 9) {
+                0 => self.odd(era),
+                1 => self.clock_on(era),
+                _ => self.submit(era),
+            }
+        }
+    }
+
+    /// All columns held, one task after the other, for about as long as the limit of laxity; then tasks whose last start is
+    /// about there.
+    fn wall(&mut self, era: &Era) {
+        let (w, now) = (self.board.w, self.board.now);
+        let planner = self.dice.pick(1, 3);
+        // the last of the ten ends at the limit, or a tick or two beside it, or leaves room for some tasks
+        let rest = self.dice.one_of(&[0, 0, 0, 1, 1, 2, 2_000]);
+        for k in 1..=10 {
+            let e = if k == 10 { LONGEST - rest } else { LONGEST };
+            let ask = Ask { id: self.fresh_id(), w, h: 1, e, d: (now + e + MOST_LAX).min(END_OF_TIME) };
+            self.emit(Event::Submit { planner, ask });
+        }
+        for _ in 0..self.dice.pick(4, 12) {
+            let mut ask = self.ask(era);
+            ask.e = self.dice.one_of(&[1, 2, 1_000, ask.e, LONGEST]);
+            let limit = now + ask.e + MOST_LAX;
+            ask.d = self.dice.one_of(&[limit - 2, limit - 1, limit - 1, limit, limit, limit, limit + 1, limit + 1, limit + 2, END_OF_TIME]);
+            if self.dice.percent(90) {
+                ask.d = ask.d.min(END_OF_TIME);
+            }
+            let planner = self.planner(era);
+            self.emit(Event::Submit { planner, ask });
+        }
     }
 
     /// A clock to an instant at which something happens, or right before: mostly the next one, `far` times in a hundred any.
@@ -229,7 +319,7 @@ impl Maker {
         let mut planner = self.planner(era);
         let live = self.task(|_| true);
         let never = u32::MAX as u64;
-        match self.dice.pick(0, 17) {
+        match self.dice.pick(0, 20) {
             0 | 1 => match live {
                 Some(t) => ask.id = t.id,
                 None => ask.id = 0,
@@ -262,6 +352,15 @@ impl Maker {
             14 => ask.d = (now + ask.e - 1).min(never),
             15 => ask.d = now + ask.e,
             16 => ask.w = w.max(1),
+            17 => ask.d = self.far_deadline(ask.e),
+            18 => ask.d = self.too_far(ask.e),
+            19 => {
+                // a live id and too far
+                if let Some(t) = live {
+                    ask.id = t.id;
+                }
+                ask.d = self.too_far(ask.e);
+            }
             _ => {
                 if self.dice.percent(33) {
                     planner = 4;
@@ -281,7 +380,8 @@ impl Maker {
                     ask.e = self.dice.one_of(&[0, LONGEST, LONGEST + 1]);
                 }
                 if self.dice.percent(50) {
-                    ask.d = self.dice.one_of(&[0, now, END_OF_TIME, END_OF_TIME + 1]);
+                    let limit = now + ask.e + MOST_LAX;
+                    ask.d = self.dice.one_of(&[0, now, END_OF_TIME, END_OF_TIME + 1, limit, limit + 1]);
                 }
             }
         }
@@ -304,19 +404,24 @@ impl Maker {
                 }
                 if self.dice.percent(25) {
                     ask.e = self.dice.one_of(&[1, 2, LONGEST - 1, LONGEST]);
-                    ask.d = self.dice.one_of(&[now + ask.e, now + ask.e + 1, END_OF_TIME - 1, END_OF_TIME]).min(never);
+                    let limit = now + ask.e + MOST_LAX;
+                    ask.d = self.dice.one_of(&[now + ask.e, now + ask.e + 1, limit - 1, limit, limit, limit + 1, END_OF_TIME - 1, END_OF_TIME]);
+                    if self.dice.percent(90) {
+                        ask.d = ask.d.min(END_OF_TIME);
+                    }
                 }
                 if self.dice.percent(10) {
                     ask.id = self.dice.one_of(&[1, never, 1 << 31]);
                 }
                 if self.dice.percent(30) {
-                    match self.dice.pick(0, 6) {
+                    match self.dice.pick(0, 7) {
                         0 => planner = self.dice.one_of(&[4, 5, 255]),
                         1 => ask.id = 0,
                         2 => ask.w = self.dice.one_of(&[0, w + 1, 65_535]),
                         3 => ask.h = self.dice.one_of(&[0, h + 1, 65_535]),
                         4 => ask.e = self.dice.one_of(&[0, LONGEST + 1, never]),
                         5 => ask.d = self.dice.one_of(&[0, END_OF_TIME + 1, never]),
+                        6 => ask.d = self.too_far(ask.e),
                         _ => ask.d = self.dice.one_of(&[now + ask.e - 1, now, now.saturating_sub(1)]),
                     }
                 }
@@ -347,11 +452,12 @@ impl Maker {
     fn open(&mut self, profile: Profile) -> Era {
         let dice = &mut self.dice;
         let planner = if dice.percent(45) { None } else { Some(dice.one_of(&[0, 0, 1, 1, 2, 3])) };
-        let mut era = Era { profile, planner, pace: (0, 3), w: (1, 4), e: (1, 6), laxity: (0, 12), odd: 6, withdraw: 4 };
+        let mut era = Era { profile, planner, pace: (0, 3), w: (1, 4), e: (1, 6), laxity: (0, 12), far: 1, odd: 6, withdraw: 4 };
         let (w, h) = match profile {
             Profile::Paper => {
                 let mean = dice.pick(3, 10);
                 era.pace = (1, 2 * mean - 1);
+                era.far = 0;
                 era.odd = 2;
                 era.withdraw = 2;
                 (96, 64)
@@ -372,13 +478,35 @@ impl Maker {
                 era.e = (dice.pick(50, 200), dice.pick(300, 2_000));
                 era.laxity = (0, dice.pick(50, 4_000));
                 era.pace = (0, dice.pick(4, 40));
+                era.far = 3;
                 era.odd = 3;
                 era.withdraw = 6;
                 (w, dice.pick(1, 64))
             }
             Profile::Late => {
                 era.w = (1, 12);
+                era.far = 2;
                 (dice.pick(8, 40), dice.pick(1, 8))
+            }
+            Profile::Lax => {
+                era.far = dice.one_of(&[20, 50, 80]);
+                era.odd = 8;
+                era.laxity = (0, MOST_LAX);
+                era.pace = (0, dice.one_of(&[3, 20_000, 200_000]));
+                if dice.percent(45) {
+                    // few side by side, and long: the last start within the limit decides
+                    let w = dice.pick(1, 40);
+                    era.w = (w.div_ceil(4), w);
+                    era.e = (dice.pick(200_000, 600_000), LONGEST);
+                    (w, dice.pick(1, 8))
+                } else {
+                    // many side by side, and slow to end: 64 are live soon
+                    let w = dice.one_of(&[64, 100, 160, 256]);
+                    era.w = (1, w / 40);
+                    era.e = (dice.pick(1, 200_000), LONGEST);
+                    era.laxity = (0, dice.one_of(&[1_000_000, 5_000_000, MOST_LAX]));
+                    (w, dice.pick(1, 8))
+                }
             }
             Profile::Bounds => {
                 let w = if dice.percent(50) { dice.one_of(&[1, 2, 3, 255, 256]) } else { dice.pick(1, 256) };
@@ -400,8 +528,8 @@ impl Maker {
         };
         self.emit(Event::NewBoard { w, h });
         if profile == Profile::Late {
-            // close to the end of time by a little or a lot; or at the beginning, with deadlines at the end
-            let room = self.dice.one_of(&[40, 400, 5_000, 200_000, 5_000_000, 60_000_000, END_OF_TIME]);
+            // close to the end of time by a little or a lot; or far from it, at any now
+            let room = self.dice.one_of(&[40, 400, 5_000, 200_000, 5_000_000, 24_000_000, END_OF_TIME]);
             let room = self.dice.pick(room / 2, room);
             era.e = (1, (room / 8).clamp(2, LONGEST));
             era.laxity = (0, (3 * era.e.1).min(room));
@@ -409,10 +537,25 @@ impl Maker {
             if self.dice.percent(35) {
                 // many of them at once, far ahead of now
                 era.w = (1, 3);
-                era.laxity = (0, (20 * era.e.1).min(room));
+                era.laxity = (0, (20 * era.e.1).min(room).min(MOST_LAX));
                 era.pace = (0, (era.e.1 / 12).max(1));
             }
             self.emit(Event::Clock { instant: END_OF_TIME - room });
+        }
+        // the last deadline lies about the limit of laxity here, from now on or soon
+        if profile == Profile::Bounds && self.dice.percent(50) || profile == Profile::Lax && self.dice.percent(65) {
+            let e = self.dice.one_of(&[1, 2, 1_000, era.e.0, era.e.1, LONGEST]);
+            let beside = self.dice.one_of(&[0, 0, 1, 2, 10, 1_000, LONGEST, 3 * LONGEST]);
+            let room = e + MOST_LAX + beside;
+            let room = if self.dice.percent(50) { room } else { self.dice.pick(1, 2 * room) };
+            self.emit(Event::Clock { instant: END_OF_TIME - room });
+        }
+        if profile == Profile::Lax {
+            if w < 64 && self.dice.percent(80) {
+                self.wall(&era);
+            } else if w >= 64 && self.dice.percent(50) {
+                self.crowd(&era);
+            }
         }
         era
     }
@@ -425,7 +568,7 @@ impl Maker {
                 let bad = [(0, 1), (1, 0), (257, 1), (256, 1_025), (0, 0), (65_535, 65_535), (257, 1_025)];
                 let (w, h) = self.dice.one_of(&bad);
                 self.emit(Event::NewBoard { w, h });
-                let era = Era { profile, planner: None, pace: (0, 1), w: (1, 1), e: (1, 2), laxity: (0, 2), odd: 0, withdraw: 0 };
+                let era = Era { profile, planner: None, pace: (0, 1), w: (1, 1), e: (1, 2), laxity: (0, 2), far: 0, odd: 0, withdraw: 0 };
                 for _ in 0..self.dice.pick(0, 4) {
                     self.odd(&era);
                 }
@@ -434,6 +577,7 @@ impl Maker {
             let length = match profile {
                 Profile::Paper => self.dice.pick(1_000, 12_000),
                 Profile::Wide | Profile::Crowded => self.dice.pick(500, 6_000),
+                Profile::Lax => self.dice.pick(20, 400),
                 _ => self.dice.pick(10, 250),
             };
             let close = self.left.saturating_sub(length).max(stop);
@@ -441,7 +585,7 @@ impl Maker {
             while self.left > close {
                 self.step(&era);
                 let room = END_OF_TIME - self.board.now;
-                if room == 0 && self.dice.percent(30) || room < 4_000 && profile != Profile::Late && profile != Profile::Bounds {
+                if room == 0 && self.dice.percent(30) || room < 4_000 && !matches!(profile, Profile::Late | Profile::Bounds | Profile::Lax) {
                     break;
                 }
             }
@@ -471,6 +615,17 @@ impl Maker {
                     self.submit(era)
                 }
             }
+            Profile::Lax => {
+                // clocks are few, so that the board is booked far ahead
+                let live = self.board.tasks.len();
+                if live == 64 && self.dice.percent(50) || self.dice.percent(4) {
+                    self.clock_to_event(2)
+                } else if self.dice.percent(8) {
+                    self.clock_on(era)
+                } else {
+                    self.submit(era)
+                }
+            }
             Profile::Paper | Profile::Wide => {
                 // an arrival: the clock, then the task
                 self.pending_clock = !self.pending_clock;
@@ -492,7 +647,7 @@ impl Maker {
 
     /// The end of a recording that does not end well.
     fn cut(&mut self) {
-        let era = Era { profile: Profile::Tiny, planner: None, pace: (0, 3), w: (1, 2), e: (1, 4), laxity: (0, 9), odd: 0, withdraw: 0 };
+        let era = Era { profile: Profile::Tiny, planner: None, pace: (0, 3), w: (1, 2), e: (1, 4), laxity: (0, 9), far: 0, odd: 0, withdraw: 0 };
         match self.dice.pick(0, 9) {
             0..=5 => {
                 let mut record = Vec::new();
@@ -531,7 +686,7 @@ impl Maker {
 fn main() {
     let words: Vec<String> = std::env::args().skip(1).collect();
     let usage = || -> ! {
-        eprintln!("usage: generate tiny|paper|wide|crowded|late|bounds|cut|mixed SEED EVENTS");
+        eprintln!("usage: generate tiny|paper|wide|crowded|late|bounds|lax|cut|mixed SEED EVENTS");
         exit(2)
     };
     let [profile, seed, events] = &words[..] else { usage() };
@@ -562,7 +717,7 @@ fn main() {
         Profile::Mixed => {
             // begins on the board of zeros now and then
             if maker.dice.percent(50) {
-                let era = Era { profile: Profile::Tiny, planner: None, pace: (0, 1), w: (1, 1), e: (1, 2), laxity: (0, 2), odd: 0, withdraw: 0 };
+                let era = Era { profile: Profile::Tiny, planner: None, pace: (0, 1), w: (1, 1), e: (1, 2), laxity: (0, 2), far: 0, odd: 0, withdraw: 0 };
                 for _ in 0..4 {
                     maker.odd(&era);
                 }

@@ -1,4 +1,5 @@
-//! model.rs: the rules of document 01, written from that document alone and meant to be slow, plain and right.
+//! model.rs: the rules of document 01 and of request Q-2 of document 02, written from these alone and meant to be slow, plain
+//! and right.
 //!
 //! It is the body of `second.rs` (the second program that `plan` is compared with), and `generate.rs` keeps such a board
 //! so that its recordings are about tasks that are live. It shares no text and no method with the Rattle code. Two methods
@@ -7,7 +8,7 @@
 //! * the sheet: all live tasks are drawn on squared paper, one row a tick and one square a column, and squares are looked
 //!   at one by one. Taken where the sheet is small.
 //! * the lists: sorted vectors of instants and explicit sets of columns. Taken for everything else, as the window may span
-//!   2,000,000,000 ticks.
+//!   10,000,000 ticks.
 //!
 //! `second --check` runs both wherever the sheet can be paid for and stops if they differ.
 
@@ -18,6 +19,12 @@ pub const MOST_COLUMNS: u64 = 256;
 pub const MOST_ROWS: u64 = 1_024;
 pub const LONGEST: u64 = 1_000_000;
 pub const END_OF_TIME: u64 = 2_000_000_000;
+/// The largest laxity that is not refused.
+pub const MOST_LAX: u64 = 10_000_000;
+
+/// What a submission is tested for, in this order; openings test those of them that speak of no planner, no id and no slot. The
+/// first test that holds gives the answer. That is not the lowest number: 18 comes before 9.
+const TESTS: [u64; 9] = [1, 3, 4, 5, 6, 7, 8, 18, 9];
 
 /// A sheet of at most this many squares is drawn to answer a submission.
 pub const SMALL_SHEET: u64 = 4_096;
@@ -41,6 +48,13 @@ pub struct Ask {
     pub h: u64,
     pub e: u64,
     pub d: u64,
+}
+
+impl Ask {
+    /// d - e - now, below 0 where the task comes too late. Both the refusal 18 and the classes of the summary read it.
+    pub fn laxity(&self, now: u64) -> i64 {
+        self.d as i64 - self.e as i64 - now as i64
+    }
 }
 
 /// Body length of a kind; None for an unknown kind.
@@ -238,12 +252,15 @@ impl Board {
         just(0)
     }
 
-    /// Every refusal number whose test holds; the lowest is the answer. 1 hides the rest: the other tests read the board.
+    /// Every refusal number whose test holds, in no order. 1 hides the rest: the other tests read the board.
     fn refusals(&self, planner: Option<u64>, ask: &Ask, id_counts: bool) -> Vec<u64> {
         if !self.sound() {
             return vec![1];
         }
         let mut numbers = Vec::new();
+        if ask.laxity(self.now) > MOST_LAX as i64 {
+            numbers.push(18);
+        }
         if self.now + ask.e > ask.d {
             numbers.push(8);
         }
@@ -272,9 +289,17 @@ impl Board {
         numbers
     }
 
+    /// The refusal that is the answer: of all whose test holds, the one that is tested first.
+    fn refusal(&self, planner: Option<u64>, ask: &Ask, id_counts: bool) -> Option<u64> {
+        let holds = self.refusals(planner, ask, id_counts);
+        let first = TESTS.into_iter().find(|number| holds.contains(number));
+        assert_eq!(first.is_none(), holds.is_empty(), "each refusal has its place among the tests");
+        first
+    }
+
     fn submit(&mut self, planner: u64, ask: &Ask) -> Answer {
-        if let Some(lowest) = self.refusals(Some(planner), ask, true).into_iter().min() {
-            return just(lowest);
+        if let Some(number) = self.refusal(Some(planner), ask, true) {
+            return just(number);
         }
         match self.place(planner, ask) {
             None => just(10),
@@ -499,8 +524,8 @@ impl Board {
     /// The openings strictly after the pair, in order, at most `most` of them, and whether a further one remains. Only
     /// starts with an opening are visited (and the pair's own), never a blocked tick.
     pub fn openings(&self, ask: &Ask, after: (u64, u64), most: usize) -> Result<(Vec<(u64, u64)>, bool), u64> {
-        if let Some(lowest) = self.refusals(None, ask, false).into_iter().min() {
-            return Err(lowest);
+        if let Some(number) = self.refusal(None, ask, false) {
+            return Err(number);
         }
         let columns: Vec<Vec<(u64, u64)>> = (1..=self.w + 1 - ask.w).map(|c| self.open_starts(ask, c)).collect();
         let mut found = Vec::new();
@@ -541,7 +566,7 @@ impl Board {
 
     // ---- checks ------------------------------------------------------------------------------------------------------
 
-    /// What makes the board unsound, by the whole definition.
+    /// What makes the board unsound, by the whole definition. A live task's laxity is no part of it.
     pub fn fault(&self) -> Option<String> {
         if self.w < 1 || self.w > MOST_COLUMNS || self.h < 1 || self.h > MOST_ROWS || self.now > END_OF_TIME {
             return Some(format!("W {} H {} now {} out of range", self.w, self.h, self.now));

@@ -1,7 +1,7 @@
 //! second: the independent second program. It reads event records on standard input and prints what `plan` has to print by
 //! document 01, so that the two can be compared byte for byte (`compare.sh`). Written from document 01 alone, the summary from
-//! request Q-1 of document 02; the rules stand in `model.rs`. Build: `rustc -O --edition 2021 tests/compare/second.rs -o second`
-//! (std only).
+//! request Q-1 of document 02, the refusal 18 from its request Q-2; the rules stand in `model.rs`. Build:
+//! `rustc -O --edition 2021 tests/compare/second.rs -o second` (std only).
 //!
 //!     second [--check] [--counts]              the lines of `plan`
 //!     second horizon                           these five read the records in silence, then answer about the board as it
@@ -13,13 +13,13 @@
 //!     second summary [FILE ..]                 Q-1: the figures over all files, each a recording of its own (standard input
 //!                                              as one recording where no file is named)
 //!     second summary --add [FILE ..]           the sum of summaries that end in `stop end`, one or more in each file
-//!     second --self-test                       the listing and the cases 1 to 12 of document 01, and summaries; ends with 1
-//!                                              if one fails
+//!     second --self-test                       the listing and the cases 1 to 12 of document 01, laxities about the limit of
+//!                                              Q-2, and summaries; ends with 1 if one fails
 //!
 //! --check   after each event: the board is sound by the whole definition, no live task has moved, and a submission is
 //!           answered the same by the lists and, where the window is small, square by square. Ends with 3 if not.
-//! --counts  on standard error: how often each answer came, by kind and planner, and how many placements tell right
-//!           methods from slips.
+//! --counts  on standard error: how often each answer came, by kind and planner, how many placements tell right methods from
+//!           slips, and what was answered at the edges of Q-2's limit.
 //! --limit N stops after N events instead of 1,000,000,000 (to try the stop itself); stands before `summary` too.
 //!
 //! A recording that ends with 15 or 16 is not answered by the five questions: a message on standard error names the event, and
@@ -29,7 +29,7 @@
 
 mod model;
 
-use model::{body_length, Answer, Ask, Board, Event, Telling};
+use model::{body_length, Answer, Ask, Board, Event, Telling, MOST_LAX};
 use std::ffi::OsString;
 use std::fs::File;
 use std::io::{self, ErrorKind, Read, Write};
@@ -101,11 +101,18 @@ fn stop(message: &str) -> ! {
 #[derive(Default)]
 struct Counts {
     /// by answer number: submissions to planners 0 to 3, to other planners, then the kinds 1, 3, 4
-    answers: [[u64; 8]; 18],
+    answers: [[u64; 8]; 19],
     telling: [Telling; 4],
     /// by the number of live tasks at a submission
     live: Vec<u64>,
-    ends: [u64; 18],
+    ends: [u64; 19],
+    /// by answer number: submissions with a laxity one below the limit of Q-2, at it, one above, further above
+    limit: [[u64; 4]; 19],
+    /// of those above it, by answer number: those to a board with 64 live tasks
+    limit_full: [u64; 19],
+    /// placed as late as the limit lets a task start; placed to start from 1,990,000,000 on
+    last_start: u64,
+    late_start: u64,
 }
 
 impl Counts {
@@ -117,6 +124,21 @@ impl Counts {
             Event::Withdraw { .. } => 7,
         };
         self.answers[answer.number as usize][place] += 1;
+    }
+
+    /// A submission at now, when so many tasks were live.
+    fn add_laxity(&mut self, now: u64, live: usize, ask: &Ask, answer: &Answer) {
+        let above = ask.laxity(now) - MOST_LAX as i64;
+        if above >= -1 {
+            self.limit[answer.number as usize][(above + 1).min(3) as usize] += 1;
+        }
+        if above >= 1 && live == 64 {
+            self.limit_full[answer.number as usize] += 1;
+        }
+        if answer.number == 0 {
+            self.last_start += (answer.start == now + MOST_LAX) as u64;
+            self.late_start += (answer.start >= 1_990_000_000) as u64;
+        }
     }
 
     fn print(&self) {
@@ -147,6 +169,13 @@ impl Counts {
             let mean = self.live.iter().enumerate().map(|(i, n)| i as u64 * n).sum::<u64>() as f64 / submissions as f64;
             eprintln!("live tasks at a submission: mean {mean:.1}, at 64: {} of {submissions}", self.live[64]);
         }
+        eprintln!("answer   laxity 1 below the limit   at it   1 above   further above   above it and 64 live");
+        for (number, row) in self.limit.iter().enumerate() {
+            if row.iter().any(|n| *n > 0) {
+                eprintln!("{number:>6} {:>26} {:>7} {:>9} {:>15} {:>22}", row[0], row[1], row[2], row[3], self.limit_full[number]);
+            }
+        }
+        eprintln!("placed at the last start that the limit allows: {}; to start from 1,990,000,000 on: {}", self.last_start, self.late_start);
     }
 }
 
@@ -211,6 +240,7 @@ fn run<R: Read>(from: R, options: &Options, counts: &mut Counts, line: &mut dyn 
                     }
                 }
                 let before = if options.check { Some(board.clone()) } else { None };
+                let live = board.tasks.len();
                 let answer = board.apply(&event);
                 if let Some(before) = before {
                     if let Some(fault) = check(&before, &event, &answer, &board) {
@@ -219,6 +249,9 @@ fn run<R: Read>(from: R, options: &Options, counts: &mut Counts, line: &mut dyn 
                     }
                 }
                 counts.add(&event, &answer);
+                if let Event::Submit { ask, .. } = event {
+                    counts.add_laxity(board.now, live, &ask, &answer);
+                }
                 line(number, event.kind(), &answer);
             }
         }
@@ -226,11 +259,15 @@ fn run<R: Read>(from: R, options: &Options, counts: &mut Counts, line: &mut dyn 
     board
 }
 
-/// What is wrong with a step, by 01's sentences on what follows.
+/// What is wrong with a step, by 01's sentences on what follows and Q-2's on what is too lax.
 fn check(before: &Board, event: &Event, answer: &Answer, after: &Board) -> Option<String> {
     if let Event::Submit { ask, .. } = event {
         if let Some(difference) = before.methods_differ(ask) {
             return Some(difference);
+        }
+        let too_lax = before.now + ask.e + 10_000_000 < ask.d;
+        if matches!(answer.number, 0 | 8 | 9 | 10) && too_lax || answer.number == 18 && !too_lax {
+            return Some(format!("too lax: {too_lax}"));
         }
     }
     if after.sound() {
@@ -432,7 +469,7 @@ fn main() {
     };
     let mut counts = Counts::default();
     let mut halt = None;
-    let board = run(io::stdin().lock(), &options, &mut counts, &mut |n, kind, a| if a.number >= 15 { halt = Some((n, kind, a.number)) }, &mut || {});
+    let board = run(io::stdin().lock(), &options, &mut counts, &mut |n, kind, a| if let 15 | 16 = a.number { halt = Some((n, kind, a.number)) }, &mut || {});
     if let Some((event, kind, number)) = halt {
         let what = if number == 15 { "cut short" } else { "of no known kind" };
         stop(&format!("event {event} (kind {kind}) is {what} ({number}): not answered"));
@@ -446,7 +483,7 @@ const PLANNERS: [&str; 4] = ["reference", "horizon", "stuffing", "full"];
 const CLASSES: [&str; 4] = ["A", "B", "C", "Other"];
 
 /// The class of a laxity, by its place in CLASSES.
-fn class(laxity: u64) -> usize {
+fn class(laxity: i64) -> usize {
     match laxity {
         1..=50 => 0,
         51..=100 => 1,
@@ -481,8 +518,7 @@ struct Figures {
 /// A submission and its answer, as the events have them.
 struct Submission {
     planner: u64,
-    e: u64,
-    d: u64,
+    ask: Ask,
     arrival: u64,
     answer: u64,
     start: u64,
@@ -497,14 +533,15 @@ impl Figures {
             self.without_class += 1;
             return;
         }
-        // 3 and 8 were not the answer: the planner is one of the four, and d - e - arrival is not below 0
-        let cell = &mut self.cells[s.planner as usize][class(s.d - s.e - s.arrival)];
+        // 3 and 8 were not the answer: the planner is one of the four, and the laxity is not below 0
+        let cell = &mut self.cells[s.planner as usize][class(s.ask.laxity(s.arrival))];
         match s.answer {
             0 => {
                 cell.taken += 1;
                 cell.waited += s.start - s.arrival;
             }
-            9 => cell.refused += 1,
+            // 18 too is refused in the class of its laxity, and that is Other
+            9 | 18 => cell.refused += 1,
             10 => cell.rejected += 1,
             n => unreachable!("{n} is no answer to a submission"),
         }
@@ -565,7 +602,7 @@ fn summarize<R: Read>(recordings: &mut dyn Iterator<Item = (Vec<u8>, R)>, option
                         }
                     }
                     if let Event::Submit { planner, ask } = event {
-                        figures.count(&Submission { planner, e: ask.e, d: ask.d, arrival, answer: answer.number, start: answer.start });
+                        figures.count(&Submission { planner, ask, arrival, answer: answer.number, start: answer.start });
                     }
                     figures.events += 1;
                     if figures.events == options.limit {
@@ -654,7 +691,7 @@ fn add_summaries(files: &[OsString]) {
     send(&mut sum.print(b"end"));
 }
 
-// ---- self-test: the listing and the cases of document 01 -------------------------------------------------------------
+// ---- self-test: the listing and the cases of document 01, the limit of Q-2, summaries ---------------------------------
 
 /// Table 1 of the source: a, e, d, w, h, on 10 x 6.
 const TABLE_1: [(u64, u64, u64, u64, u64); 7] =
@@ -821,11 +858,18 @@ fn self_test() -> i32 {
     let refused = |w, h, e, d| told(&b, &Question::Openings { ask: Ask { id: 0, w, h, e, d }, after: (0, 0), most: 9 });
     let all = [refused(4, 1, 0, 0), refused(1, 2, 1, 3), refused(1, 1, 0, 3), refused(1, 1, 3, 2), told(&Board::zeros(), &Question::Openings { ask, after: (0, 0), most: 9 })];
     same("openings refused", all.concat(), "answer 5\nanswer 5\nanswer 6\nanswer 8\nanswer 1\n");
+    let far = Ask { id: 0, w: 3, h: 1, e: 1_000_000, d: 11_000_000 };
+    same(
+        "openings over 10,000,000 ticks",
+        told(&b, &Question::Openings { ask: far, after: (9_999_999, 1), most: 9 }) + &told(&b, &Question::Openings { ask: far, after: (0, 0), most: 2 }),
+        "answer 0\n10000000 1\nend\nanswer 0\n2 1\n3 1\nmore\n",
+    );
+    let late = after(&[board(3, 1), clock(1_989_000_000), submit(FULL, 1, 1, 2, 1_990_000_000)]);
     let far = Ask { id: 0, w: 3, h: 1, e: 1_000_000, d: 2_000_000_000 };
     same(
-        "openings over 2,000,000,000 ticks",
-        told(&b, &Question::Openings { ask: far, after: (1_998_999_999, 1), most: 9 }) + &told(&b, &Question::Openings { ask: far, after: (0, 0), most: 2 }),
-        "answer 0\n1999000000 1\nend\nanswer 0\n2 1\n3 1\nmore\n",
+        "openings up to 2,000,000,000",
+        told(&late, &Question::Openings { ask: far, after: (1_998_999_999, 0), most: 9 }) + &told(&late, &Question::Openings { ask: far, after: (0, 0), most: 2 }),
+        "answer 0\n1998999999 1\n1999000000 1\nend\nanswer 0\n1989000002 1\n1989000003 1\nmore\n",
     );
 
     // case 10
@@ -862,7 +906,7 @@ fn self_test() -> i32 {
     same("stamp at 5", told(&after(&start), &Question::Stamp(5)), "answer 0\n4 2 3\n1 1 4 1 5 9 1 0 5 ended\n2 2 4 1 4 9 1 5 9 running\n");
     same("stamp at 0", told(&after(&start), &Question::Stamp(0)), "answer 0\n4 2 3\n1 1 4 1 5 9 1 0 5 running\n2 2 4 1 4 9 1 5 9 waiting\n");
 
-    // refusals: each number, and that the lowest wins
+    // refusals: each number, and that the first test wins: 3, 4, 5, 6, 7, 8, 18
     let ask = |id, w, h, e, d| Ask { id, w, h, e, d };
     let one = |planner: u64, a: Ask| answers(&[board(4, 2), submit(FULL, 7, 4, 5, 9), clock(3), Event::Submit { planner, ask: a }])[3].clone();
     for (planner, a, want) in [
@@ -882,8 +926,75 @@ fn self_test() -> i32 {
         (3, ask(8, 1, 1, 1, 3), 8),
         (3, ask(8, 4, 1, 1, 4), 10),
         (0, ask(8, 4, 1, 1, 9), 10),
+        (4, ask(8, 1, 1, 1, 10_000_005), 3),
+        (3, ask(0, 1, 1, 1, 10_000_005), 4),
+        (3, ask(8, 5, 1, 1, 10_000_005), 5),
+        (3, ask(8, 1, 3, 1, 10_000_005), 5),
+        (3, ask(8, 1, 1, 0, 10_000_005), 6),
+        (3, ask(8, 1, 1, 1_000_001, 11_000_005), 6),
+        (3, ask(8, 1, 1, 1, 2_000_000_001), 6),
+        (3, ask(7, 1, 1, 1, 10_000_005), 7),
+        (3, ask(7, 1, 1, 1, 2_000_000_000), 7),
+        (3, ask(8, 1, 1, 1, 10_000_005), 18),
+        (0, ask(8, 4, 1, 1, 10_000_005), 18),
+        (0, ask(8, 4, 1, 1, 10_000_004), 10),
+        (3, ask(8, 1, 1, 1, 1_999_999_999), 18),
+        (3, ask(8, 1, 1, 1_000_000, 2_000_000_000), 18),
     ] {
         same(&format!("refusal {a:?}"), one(planner, a), &format!("{want} 0 0 0"));
+    }
+
+    // a laxity of 10,000,000 passes, one more gives 18, by each planner, early and late, and in openings
+    for (now, e) in [(5, 4), (0, 1), (0, 1_000_000), (1_000_000_000, 77), (1_988_999_999, 1_000_000)] {
+        let limit = now + e + 10_000_000;
+        for planner in 0..4 {
+            let start = [board(10, 6), clock(now)];
+            let with = |d: u64| places(&[&start[..], &[submit(planner, 1, 3, e, d)]].concat());
+            same("laxity 9,999,999", with(limit - 1), &format!("(1,{now})"));
+            same("laxity 10,000,000", with(limit), &format!("(1,{now})"));
+            same("laxity 10,000,001", with(limit + 1), "18");
+            same("the last deadline", with(2_000_000_000), "18");
+            same("laxity -1", with(now + e - 1), "8");
+        }
+        let b = after(&[board(10, 6), clock(now)]);
+        let open = |w, h, d, start| told(&b, &Question::Openings { ask: Ask { id: 0, w, h, e, d }, after: (start, 9), most: 1 });
+        same("openings, laxity 10,000,000", open(1, 1, limit, now + 10_000_000), &format!("answer 0\n{} 10\nend\n", now + 10_000_000));
+        same("openings, laxity 9,999,999", open(1, 1, limit - 1, now + 9_999_999), &format!("answer 0\n{} 10\nend\n", now + 9_999_999));
+        same("openings, laxity 10,000,001", open(1, 1, limit + 1, now), "answer 18\n");
+        same("openings, the last deadline", open(1, 1, 2_000_000_000, now), "answer 18\n");
+        same("openings, too wide and too lax", open(11, 1, limit + 1, now) + &open(1, 7, limit + 1, now), "answer 5\nanswer 5\n");
+        same("openings, d out of range", open(1, 1, 2_000_000_001, now), "answer 6\n");
+        same("openings, laxity -1", open(1, 1, now + e - 1, now), "answer 8\n");
+    }
+    // 64 live and too lax: 18, not 9; a live id and too lax: 7
+    for planner in 0..4 {
+        let mut events = vec![board(64, 1), clock(5)];
+        events.extend((1..=64).map(|id| submit(planner, id, 1, 50, 10_000_055)));
+        let wall = events.len();
+        for (id, d) in [(65, 10_000_009), (65, 10_000_010), (65, 2_000_000_000), (65, 8), (65, 9), (64, 10_000_010), (64, 10_000_009), (64, 8), (0, 10_000_010), (65, 2_000_000_001)] {
+            events.push(submit(planner, id, 1, 4, d));
+        }
+        events.push(submit(4, 65, 1, 4, 10_000_010));
+        same("64 live and too lax", answers(&events)[wall..].iter().map(|l| l.split(' ').next().unwrap()).collect::<Vec<_>>().join(" "), "9 18 18 8 9 7 7 7 4 6 3");
+        let b = after(&events);
+        let open = |d| told(&b, &Question::Openings { ask: Ask { id: 1, w: 1, h: 1, e: 4, d }, after: (0, 0), most: 1 });
+        same("64 live, openings", open(10_000_009) + &open(10_000_010) + &open(8), "answer 0\n55 1\nmore\nanswer 18\nanswer 8\n");
+    }
+    // ten tasks over all columns hold the board for 10,000,000 ticks: the last start that the limit lets a task have is the only one
+    for now in [0, 1_988_000_000] {
+        for planner in 1..4 {
+            let mut events = vec![board(4, 1), clock(now)];
+            events.extend((1..=10).map(|id| submit(planner, id, 4, 1_000_000, now + 11_000_000)));
+            for (id, d) in [(11, 9_999_999), (12, 10_000_001), (13, 10_000_000), (14, 10_000_000)] {
+                events.push(submit(planner, id, 4, 7, now + 7 + d));
+            }
+            let walls: Vec<String> = (0..10).map(|k| format!("(1,{})", now + k * 1_000_000)).collect();
+            same("the last start", places(&events), &format!("{} 10 18 (1,{}) 10", walls.join(" "), now + 10_000_000));
+            // the live tasks stay, as the clock goes on; what is asked is judged from the new now
+            events.extend([clock(now + 1), submit(planner, 15, 4, 7, now + 10_000_008), submit(planner, 16, 4, 7, now + 10_000_009), clock(now + 7), submit(planner, 17, 4, 7, now + 10_000_014), submit(planner, 18, 4, 7, now + 10_000_015)]);
+            let said = places(&events);
+            same("the last start, later", said.rsplitn(5, ' ').take(4).collect::<Vec<_>>().join(" "), &format!("18 (1,{}) 18 10", now + 10_000_007));
+        }
     }
     same("the last id, the last instant", answers(&[board(256, 1024), clock(2_000_000_000 - 1_000_000), Event::Submit { planner: 0, ask: ask(4_294_967_295, 256, 1024, 1_000_000, 2_000_000_000) }, withdraw(4_294_967_295), clock(2_000_000_000), withdraw(4_294_967_295), withdraw(0), clock(2_000_000_001), clock(1_999_999_999)])[1..].join(","), "0 0 0 0,0 1 1999000000 2000000000,14 0 0 0,0 0 0 0,13 0 0 0,13 0 0 0,12 0 0 0,11 0 0 0");
     for (w, h, want) in [(0, 1, 2), (1, 0, 2), (257, 1, 2), (1, 1025, 2), (65535, 65535, 2), (1, 1, 0), (256, 1024, 0)] {
@@ -973,16 +1084,24 @@ events 0 files 1 stop end
     same("each file begins with the board of zeros", rows(&figures(&[table.clone(), recorded(&[submit(FULL, 99, 1, 1, 30)])], MOST_EVENTS)).join(","), "horizon A 7 7 0 0 36 7/7,refused without class 1,events 12 files 2 stop end");
     // laxities at the edges of the classes, at now 0 and later
     for now in [0, 1_000_000] {
-        for (laxity, want) in [(0, "Other"), (1, "A"), (50, "A"), (51, "B"), (100, "B"), (101, "C"), (200, "C"), (201, "Other"), (900_000_000, "Other")] {
+        for (laxity, want) in [(0, "Other"), (1, "A"), (50, "A"), (51, "B"), (100, "B"), (101, "C"), (200, "C"), (201, "Other"), (10_000_000, "Other")] {
             for (planner, name) in PLANNERS.iter().enumerate() {
                 let events = [board(4, 1), clock(now), submit(planner as u64, 1, 1, 7, now + 7 + laxity)];
                 same("class", one(&events), &format!("{name} {want} 1 1 0 0 0 1/1,refused without class 0,events 3 files 1 stop end"));
             }
         }
     }
-    // each refusal: 9 in its class, 1 and 3 to 8 without; 2, 11 to 14 are no submissions; a task withdrawn stays taken
+    for now in [0, 1_000_000] {
+        for laxity in [10_000_001, 900_000_000] {
+            for (planner, name) in PLANNERS.iter().enumerate() {
+                let events = [board(4, 1), clock(now), submit(planner as u64, 1, 1, 7, now + 7 + laxity)];
+                same("refused with 18", one(&events), &format!("{name} Other 1 0 0 1 0 0/1,refused without class 0,events 3 files 1 stop end"));
+            }
+        }
+    }
+    // each refusal: 9 in its class, 18 in Other, 1 and 3 to 8 without; 2, 11 to 14 are no submissions; a task withdrawn stays taken
     same("refused with 1, and 2", one(&[submit(0, 1, 1, 1, 9), board(0, 1), submit(9, 1, 1, 1, 9)]), "refused without class 2,events 3 files 1 stop end");
-    for (planner, a, number) in [(4, ask(8, 1, 1, 1, 9), 3), (3, ask(0, 1, 1, 1, 9), 4), (3, ask(8, 5, 1, 1, 9), 5), (3, ask(8, 1, 1, 0, 9), 6), (3, ask(7, 1, 1, 1, 9), 7), (3, ask(8, 1, 1, 1, 3), 8)] {
+    for (planner, a, number) in [(4, ask(8, 1, 1, 1, 9), 3), (3, ask(0, 1, 1, 1, 9), 4), (3, ask(8, 5, 1, 1, 9), 5), (3, ask(8, 1, 1, 0, 9), 6), (3, ask(7, 1, 1, 1, 9), 7), (3, ask(8, 1, 1, 1, 3), 8), (3, ask(7, 1, 1, 1, 20_000_000), 7)] {
         let events = [board(4, 2), submit(FULL, 7, 4, 5, 9), clock(3), Event::Submit { planner, ask: a }];
         same("refused without class", answers(&events)[3].clone() + "," + &one(&events), &format!("{number} 0 0 0,full A 1 1 0 0 0 1/1,refused without class 1,events 4 files 1 stop end"));
     }
@@ -990,6 +1109,8 @@ events 0 files 1 stop end
     crowd.extend((1..=64).map(|id| submit(STUFFING, id, 1, 50, 50)));
     crowd.extend([submit(REFERENCE, 65, 1, 10, 60), submit(HORIZON, 65, 1, 10, 110), submit(FULL, 65, 1, 10, 10), submit(FULL, 64, 1, 10, 10)]);
     same("refused with 9", one(&crowd), "reference A 1 0 0 1 0 0/1,horizon B 1 0 0 1 0 0/1,stuffing Other 64 64 0 0 0 64/64,full Other 1 0 0 1 0 0/1,refused without class 1,events 69 files 1 stop end");
+    crowd.extend([submit(REFERENCE, 65, 1, 10, 10_000_011), submit(FULL, 65, 1, 10, 2_000_000_000), submit(FULL, 65, 1, 10, 10_000_010), submit(FULL, 64, 1, 10, 10_000_011)]);
+    same("refused with 9 and 18", one(&crowd), "reference A 1 0 0 1 0 0/1,reference Other 1 0 0 1 0 0/1,horizon B 1 0 0 1 0 0/1,stuffing Other 64 64 0 0 0 64/64,full Other 3 0 0 3 0 0/3,refused without class 2,events 73 files 1 stop end");
     let events = [board(4, 1), submit(FULL, 1, 4, 5, 9), submit(FULL, 2, 4, 4, 99), withdraw(2), withdraw(2), withdraw(1), clock(3), clock(2), clock(4_000_000_000), submit(FULL, 2, 4, 4, 99)];
     same("withdrawn", one(&events), "full A 1 1 0 0 0 1/1,full B 2 2 0 0 7 2/2,refused without class 0,events 10 files 1 stop end");
     // stops

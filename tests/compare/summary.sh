@@ -214,7 +214,7 @@ wrong_sum() { # NAME KIND
 }
 kinds=(byte byte byte digit digit left-out twice swapped stop cut empty zeros sign ratio count past text large large edge)
 
-profiles=(tiny paper wide crowded late bounds cut mixed)
+profiles=(tiny paper wide crowded late bounds lax cut mixed)
 declare -A well
 for ((r = 0; r < recordings; r++)); do
     profile=${profiles[$((r % ${#profiles[@]}))]}

@@ -99,6 +99,40 @@ for question in horizon "busy 0" "openings 1 1 1 1" board "stamp 0"; do
     check "ask $question of no board" "answer 1" "$(tell $run ask --from "$work/none" $question)"
 done
 
+# a deadline with a digit too many (document 02, Q-2): with now 5 and e 4 the last one is 10,000,009
+cat >"$work/lax.txt" <<'END'
+board 4 1
+clock 5
+submit full 1 4 1 4 10000009
+submit full 2 4 1 4 10000010
+submit full 1 4 1 4 10000010  # a live id
+submit full 2 4 1 4 8         # before now + e
+submit full 2 4 1 4 2000000001
+END
+$run record "$work/lax.txt" >"$work/lax"
+check "plan, laxities about the limit" "$header id answer
+1 1 0 0 0 0 - 0 done
+2 3 0 0 0 0 - 0 done
+3 2 0 1 5 9 1 0 done
+4 2 18 0 0 0 2 18 the laxity is over 10000000
+5 2 7 0 0 0 1 7 the id is live already
+6 2 8 0 0 0 2 8 d is before now + e
+7 2 6 0 0 0 2 6 e or d out of range" "$(tell $run plan --words "$work/lax")"
+check "ask openings, the last one within the limit" "answer 0
+10000005 1
+end" "$(tell $run ask --from "$work/lax" openings 4 1 4 10000009 10000004 1)"
+check "ask openings, too lax" "answer 18" "$(tell $run ask --from "$work/lax" openings 4 1 4 10000010 10000004 1)"
+check "ask openings, far, from a late now" "answer 0
+1999999999 1
+end" "$(printf 'board 1 1\nclock 1989999999\n' | $run record | tell $run ask openings 1 1 1 2000000000 1999999998 1)"
+{ sed -n '1,66p' tests/summary/full.txt; echo "submit full 65 1 1 1 10000001"; echo "submit full 65 1 1 1 10000002"; } >"$work/crowded.txt"
+check "plan, 64 live: at the limit 9, past it 18" "66 2 9 0 0 0
+67 2 18 0 0 0" "$($run record "$work/crowded.txt" | $run plan | tail -n 2)"
+check "summary, too lax: refused in class Other" "planner class submitted taken rejected refused waited taken/submitted
+full Other 2 1 0 1 0 1/2
+refused without class 3
+events 7 files 1 stop end" "$(tell $run summary "$work/lax" | grep -v ' 0 0 0 0 0 0/0$')"
+
 # 15, 16, and a wrong line: nothing partial looks whole
 head -c 10 "$work/session" >"$work/cut"
 check "plan, cut short" "$header

@@ -84,6 +84,9 @@ impl Device {
         if job.deadline < self.now + job.exec {
             return Reply::No(8);
         }
+        if self.now + job.exec + 10_000_000 < job.deadline {
+            return Reply::No(18);
+        }
         let Some(slot) = self.slots.iter().position(|s| s.is_none()) else {
             return Reply::No(9);
         };
@@ -293,7 +296,7 @@ fn stuck(planner: u8, rounds: u32) -> u64 {
     let mut device = Device::new(256, 64);
     for id in 1..64 {
         let exec = if id % 8 == 0 { 1_000_000 } else { 1000 + id % 64 * 16 };
-        device.submit(3, Job { id, exec, deadline: 2_000_000_000, width: 4, height: 1 });
+        device.submit(3, Job { id, exec, deadline: 10_000_000, width: 4, height: 1 });
     }
     (0..rounds).fold(0, |sum, round| {
         let job = Job { id: 1000, exec: 50 + round % 8, deadline: 500_000, width: 33, height: 1 };
@@ -301,7 +304,7 @@ fn stuck(planner: u8, rounds: u32) -> u64 {
     })
 }
 
-// an empty board; 64 tasks of drawn sizes; 64 tasks of all columns, one after the other
+// an empty board; 64 tasks of drawn sizes; late in its life, 64 tasks of all columns, one after the other
 fn empty() -> Device {
     Device::new(256, 64)
 }
@@ -312,15 +315,16 @@ fn scattered() -> Device {
     for id in 1..=64 {
         let rolls: [u64; 5] = std::array::from_fn(|_| dice.roll());
         let (exec, width) = (between(rolls[1], 200, 1000), between(rolls[3], 1, 16) as u16);
-        device.submit(3, Job { id, exec, deadline: 2_000_000_000, width, height: 1 });
+        device.submit(3, Job { id, exec, deadline: 10_000_000, width, height: 1 });
     }
     device
 }
 
 fn walled() -> Device {
     let mut device = empty();
+    device.advance(1_989_999_999);
     for id in 1..=64 {
-        device.submit(3, Job { id, exec: 1_000_000, deadline: 2_000_000_000, width: 256, height: 1 });
+        device.submit(3, Job { id, exec: 100_000, deadline: 2_000_000_000, width: 256, height: 1 });
     }
     device
 }
@@ -340,8 +344,9 @@ fn wanted(width: u16, exec: u32, deadline: u32) -> Job {
 // openings asked for again and again; `on`: those after the last pair given while a further one remains
 fn asking(mut device: Device, job: Job, from: (u32, u32), on: bool, out: &mut [u32], rounds: u32, stats: bool) -> u64 {
     let (mut sum, mut pair, mut openings) = (0, from, 0);
+    let clock = device.now;
     for round in 0..rounds {
-        device.now = round % 8;
+        device.now = clock + round % 8;
         let (n, more) = device.openings(&job, pair, out);
         let last = last_pair(out, n);
         sum = count(sum, n, more, last);
@@ -357,17 +362,17 @@ fn asking(mut device: Device, job: Job, from: (u32, u32), on: bool, out: &mut [u
 
 fn pages(board: u8, rounds: u32, stats: bool) -> u64 {
     let (device, job) = match board {
-        0 => (empty(), wanted(1, 1, 2_000_000_000)),
+        0 => (empty(), wanted(1, 1, 10_000_001)),
         1 => (scattered(), wanted(4, 20, 2092)),
-        _ => (empty(), wanted(33, 1, 2_000_000_000)),
+        _ => (empty(), wanted(33, 1, 10_000_001)),
     };
     asking(device, job, (0, 0), true, &mut [0; 16384], rounds, stats)
 }
 
 fn firsts(board: u8, rounds: u32, stats: bool) -> u64 {
     let (device, job, from) = match board {
-        0 => (empty(), wanted(1, 1, 2_000_000_000), (0, 0)),
-        1 => (scattered(), wanted(8, 20, 2_000_000_000), (0, 0)),
+        0 => (empty(), wanted(1, 1, 10_000_001), (0, 0)),
+        1 => (scattered(), wanted(8, 20, 10_000_020), (0, 0)),
         2 => (walled(), wanted(1, 1, 2_000_000_000), (0, 0)),
         _ => (walled(), wanted(256, 1, 2_000_000_000), (1_999_999_998, 1)),
     };

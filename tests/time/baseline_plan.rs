@@ -137,6 +137,9 @@ impl Device {
         if job.d < self.now + job.e {
             return Err(8);
         }
+        if self.now + job.e + 10_000_000 < job.d {
+            return Err(18);
+        }
         if self.live.len() == 64 {
             return Err(9);
         }

@@ -139,6 +139,9 @@ impl Device {
         if job.d < self.now + job.e {
             return Err(8);
         }
+        if self.now + job.e + 10_000_000 < job.d {
+            return Err(18);
+        }
         let Some(slot) = free else { return Err(9) };
         let place = match planner {
             0 => self.reference(self.now, job),

@@ -7,7 +7,7 @@ OURS, RUST = sys.argv[1:3]
 PLANNERS = ["Reference", "Horizon", "Stuffing", "Full"]
 WORKLOADS = ["0 the paper's, 96 columns", "1 256 columns, ~30 live", "2 256 columns, 55-63 live"]
 PAGES = ["empty, w 1", "64 live, w 4", "empty, w 33"]
-FIRSTS = ["empty", "64 live, w 8", "blocked for 64,000,000 ticks", "the last one, at 1,999,999,999"]
+FIRSTS = ["empty", "64 live, w 8", "blocked for 6,400,000 ticks", "the last one, at 1,999,999,999"]
 TURNS = 5
 
 

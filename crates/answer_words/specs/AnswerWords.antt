@@ -1,4 +1,4 @@
--- The answer numbers of document 01 in words. Assumes nothing.
+-- The answer numbers of documents 01 and 02 in words. Assumes nothing.
 use Prim.Native.Nat.{ℕ}
 use mathlib.Core.List.{List, [], _∷_}
 use lib.ListN.{getD}
@@ -25,8 +25,9 @@ answerTexts =
     ∷ ascii "the record is cut short"
     ∷ ascii "unknown kind byte"
     ∷ ascii "the buffer is too short"
+    ∷ ascii "the laxity is over 10000000"
     ∷ []
 
--- an answer in words; none for a number that 01 does not give
+-- an answer in words; none for a number that they do not give
 unfoldable pub answerWords : ℕ → List ℕ
 answerWords n = getD answerTexts n []

@@ -1,4 +1,4 @@
-// The answer numbers of document 01 in words.
+// The answer numbers of documents 01 and 02 in words.
 ghost use Prim.Native.Nat.{_+_, _≤_};
 ghost use lib.ListN.{length};
 ghost use Rattle.text.specs.Digits.{Put};
@@ -29,6 +29,7 @@ pub fn put_answer(out: &mut [u8], at: usize, number: u32) -> usize
         15 => text::put_bytes(out, at, b"the record is cut short"),
         16 => text::put_bytes(out, at, b"unknown kind byte"),
         17 => text::put_bytes(out, at, b"the buffer is too short"),
+        18 => text::put_bytes(out, at, b"the laxity is over 10000000"),
         _ => at,
     }
 }

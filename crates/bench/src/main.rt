@@ -147,7 +147,7 @@ fn filled(count: u32) -> Board {
             Submission {
                 id: i,
                 e: stay(i),
-                d: 2_000_000_000,
+                d: 10_000_000,
                 w: 4,
                 h: 1,
             },
@@ -215,7 +215,7 @@ fn scattered() -> Board {
             Submission {
                 id: i,
                 e: pick(s[1], 200, 800),
-                d: 2_000_000_000,
+                d: 10_000_000,
                 w: (pick(s[3], 1, 15) % 65536) as u16,
                 h: 1,
             },
@@ -225,10 +225,11 @@ fn scattered() -> Board {
     board
 }
 
-// A board of 256 columns, all of them held by 64 tasks one after the other.
+// A board of 256 columns late in its life, all of them held by 64 tasks one after the other, up to tick 1,996,399,999.
 fn walled() -> Board {
     let created = Board::new(256, 64);
-    let mut board = created.board;
+    let clocked = created.board.clock(1_989_999_999);
+    let mut board = clocked.board;
     let mut i: u32 = 0;
     while i < 64 {
         i += 1;
@@ -236,7 +237,7 @@ fn walled() -> Board {
             3,
             Submission {
                 id: i,
-                e: 1_000_000,
+                e: 100_000,
                 d: 2_000_000_000,
                 w: 256,
                 h: 1,
@@ -312,12 +313,13 @@ fn asking(
     buffer: &mut [u32],
     rounds: u32,
 ) -> u64 {
+    let clock = standing.now;
     let mut board = standing;
     let mut pair = from;
     let mut sum: u64 = 0;
     let mut round: u32 = 0;
     while round < rounds {
-        board.now = round % 8;
+        board.now = later(clock, round % 8);
         let opened = board.openings(a, pair.start, pair.column, buffer);
         let last = last_pair(buffer, opened.count);
         sum = counted(sum, opened.count, opened.more, last);
@@ -354,21 +356,21 @@ fn empty() -> Board {
 // 5: openings into a large buffer. Empty; 64 live tasks, until the last has ended; empty and a wide task.
 fn pages(board: u8, rounds: u32) -> u64 {
     if board == 0 {
-        return paged(empty(), wanted(1, 1, 2_000_000_000), rounds);
+        return paged(empty(), wanted(1, 1, 10_000_001), rounds);
     }
     if board == 1 {
         return paged(scattered(), wanted(4, 20, 2092), rounds);
     }
-    paged(empty(), wanted(33, 1, 2_000_000_000), rounds)
+    paged(empty(), wanted(33, 1, 10_000_001), rounds)
 }
 
-// 6: the first opening. Empty; 64 live tasks; all columns held up to tick 64,000,000; only the one at 1,999,999,999 left.
+// 6: the first opening. Empty; 64 live tasks; all columns held for 6,400,000 ticks; only the one at 1,999,999,999 left.
 fn firsts(board: u8, rounds: u32) -> u64 {
     if board == 0 {
-        return first(empty(), wanted(1, 1, 2_000_000_000), 0, 0, rounds);
+        return first(empty(), wanted(1, 1, 10_000_001), 0, 0, rounds);
     }
     if board == 1 {
-        return first(scattered(), wanted(8, 20, 2_000_000_000), 0, 0, rounds);
+        return first(scattered(), wanted(8, 20, 10_000_020), 0, 0, rounds);
     }
     let far = walled();
     if board == 2 {

@@ -15,6 +15,7 @@ use Rattle.lists.proofs.Order.{Sorted}
 use Rattle.ways.specs.Ways.{pair}
 use Rattle.tasks.specs.declared.Submission.{Submission}
 use Rattle.tasks.specs.Numbers.{within, sizeFits, timeFits, lastInstant, longest}
+use Rattle.laxity.specs.Laxity.{laxity, mostLaxity}
 use Rattle.tasks.proofs.Laws.{within-in}
 use Rattle.planners.specs.Openings.{Place, openings, pairNumbers, full}
 use Rattle.planners.specs.Planners.{planned}
@@ -40,7 +41,7 @@ unfolding pairsFrom pairNumbers
 read-back [] ws = refl
 read-back (p ∷ ps) ws = ap (λ qs. pair (p .start) (p .place) ∷ qs) (read-back ps ws)
 
--- a request on a sound board for a well-formed task whose deadline can still be reached is not refused
+-- a request on a sound board for a well-formed task whose deadline can still be reached, within the laxity of document 02, is not refused
 pub not-refused : (b : Board) (a : Submission) → SoundBoard b → Reachable b a → refusedOpenings b a ≡ 0
 unfolding refusedOpenings
 not-refused b a s k =
@@ -49,7 +50,8 @@ not-refused b a s k =
     sound-passes (soundBoard b) (openingsTests (b .device) (b .now) a) (is-true (soundBoard b) (sound-in (b .device) (b .now) (b .tasks) s))
     ∙ passed-over 5 (not (sizeFits (b .device) (a .w) (a .h))) _ (ap not (is-true (sizeFits (b .device) (a .w) (a .h)) sized))
     ∙ passed-over 6 (not (timeFits (a .e) (a .d))) _ (ap not (is-true (timeFits (a .e) (a .d)) timed))
-    ∙ passed-over 8 (ltb (a .d) (b .now + a .e)) [] (le-ltb (a .d) (b .now + a .e) (k .reachable))
+    ∙ passed-over 8 (ltb (a .d) (b .now + a .e)) _ (le-ltb (a .d) (b .now + a .e) (k .reachable))
+    ∙ passed-over 18 (ltb mostLaxity (laxity (b .now) (a .e) (a .d))) [] (le-ltb mostLaxity (laxity (b .now) (a .e) (a .d)) (k .lax))
     ∙ (unfold refusal in refl)
 
 module _ (b : Board) (a : Submission) where

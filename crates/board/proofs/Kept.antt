@@ -15,6 +15,7 @@ use Rattle.tasks.specs.declared.Device.{Device}
 use Rattle.tasks.specs.declared.Task.{Task}
 use Rattle.tasks.specs.declared.Submission.{Submission}
 use Rattle.tasks.specs.Numbers.{within, device, deviceFits, sizeFits, timeFits, largestId, lastInstant, longest, lastPlanner}
+use Rattle.laxity.specs.Laxity.{laxity, mostLaxity}
 use Rattle.tasks.specs.Tasks.{live, stamped, freeSlot, zeros, booked}
 use Rattle.tasks.proofs.Laws.{Between, within-out}
 use Rattle.planners.specs.Openings.{Place}
@@ -54,6 +55,7 @@ pub record Accepted (b : Board) (n : ℕ) (a : Submission) : Type 0 where
   pub d : a .d ≤ lastInstant
   pub new : (l : Task) → l ∈ b .tasks → T (live l) → l .id ≡ a .id → ⊥
   pub reachable : b .now + a .e ≤ a .d
+  pub lax : laxity (b .now) (a .e) (a .d) ≤ mostLaxity
   pub room : length (liveOf b) < 64
 
 pub submit-accepted : (b : Board) (n : ℕ) (a : Submission) → refusedSubmit b n a ≡ 0 → Accepted b n a
@@ -66,7 +68,8 @@ submit-accepted b n a e =
     let r6 = none-holds 6 _ _ (omega arith) (r5 .1) in
     let r7 = none-holds 7 _ _ (omega arith) (r6 .1) in
     let r8 = none-holds 8 _ _ (omega arith) (r7 .1) in
-    let r9 = none-holds 9 _ _ (omega arith) (r8 .1) in
+    let r18 = none-holds 18 _ _ (omega arith) (r8 .1) in
+    let r9 = none-holds 9 _ _ (omega arith) (r18 .1) in
     let five = not-not (sizeFits (b .device) (a .w) (a .h)) (r5 .0) in
     let six = not-not (timeFits (a .e) (a .d)) (r6 .0) in
     record {
@@ -81,6 +84,7 @@ submit-accepted b n a e =
           T-not (live l && eqb (l .id) (a .id)) (none-pass (λ k. live k && eqb (k .id) (a .id)) (b .tasks) (r7 .0) m)
           (and-i (live l) (eqb (l .id) (a .id)) t (rw q (eqb-refl (a .id))));
       reachable = nltb→le (a .d) (b .now + a .e) (r8 .0);
+      lax = nltb→le mostLaxity (laxity (b .now) (a .e) (a .d)) (r18 .0);
       room = nleb→lt 64 (length (liveOf b)) (r9 .0);
     }
   where

@@ -12,6 +12,7 @@ use Rattle.ways.specs.Ways.{pair, after, openingsAfter}
 use Rattle.tasks.specs.declared.Submission.{Submission}
 use Rattle.tasks.specs.Numbers.{within, sizeFits, timeFits, lastInstant, longest}
 use Rattle.tasks.proofs.Laws.{Between, within-out}
+use Rattle.laxity.specs.Laxity.{laxity, mostLaxity}
 use Rattle.tasks.specs.Tasks.{meets, stamped, booked}
 use Rattle.planners.specs.Openings.{ways, pairNumbers}
 use Rattle.planners.specs.declared.Window.{Window}
@@ -30,13 +31,14 @@ use Rattle.board.specs.Calls.{orRefused, remaining, opened, openedBuffer
 use Rattle.refusals.specs.Refusals.{openingsTests}
 use Rattle.refusals.proofs.First.{none-holds, sound-passes, unsound-refused}
 
--- a well-formed task whose deadline can still be reached
+-- a well-formed task whose deadline can still be reached, within the laxity of document 02
 pub record Reachable (b : Board) (a : Submission) : Type 0 where
   pub w : Between 1 (b .device .columns) (a .w)
   pub h : Between 1 (b .device .rows) (a .h)
   pub e : Between 1 longest (a .e)
   pub d : a .d ≤ lastInstant
   pub reachable : b .now + a .e ≤ a .d
+  pub lax : laxity (b .now) (a .e) (a .d) ≤ mostLaxity
 
 -- WHAT A REQUEST THAT IS NOT REFUSED BRINGS
 pub window : (b : Board) (a : Submission) → refusal (openingsTests (b .device) (b .now) a) ≡ 0 → Reachable b a
@@ -44,6 +46,7 @@ window b a e =
     let r5 = none-holds 5 _ _ (omega arith) e in
     let r6 = none-holds 6 _ _ (omega arith) (r5 .1) in
     let r8 = none-holds 8 _ _ (omega arith) (r6 .1) in
+    let r18 = none-holds 18 _ _ (omega arith) (r8 .1) in
     let five = not-not (sizeFits (b .device) (a .w) (a .h)) (r5 .0) in
     let six = not-not (timeFits (a .e) (a .d)) (r6 .0) in
     record {
@@ -52,6 +55,7 @@ window b a e =
       e = within-out 1 longest (a .e) (and-l (within 1 longest (a .e)) (leb (a .d) lastInstant) six);
       d = leb→le (a .d) lastInstant (and-r (within 1 longest (a .e)) (leb (a .d) lastInstant) six);
       reachable = nltb→le (a .d) (b .now + a .e) (r8 .0);
+      lax = nltb→le mostLaxity (laxity (b .now) (a .e) (a .d)) (r18 .0);
     }
 
 module _ (b : Board) (a : Submission) (s c : ℕ) (buffer : List ℕ) where

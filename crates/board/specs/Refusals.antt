@@ -26,7 +26,7 @@ soundBoard b = sound (b .device) (b .now) (b .tasks)
 unfoldable pub refusedCreate : Device → ℕ
 refusedCreate D = refusal (createTests D)
 
--- "Submission tests 1 and 3 to 10"; 10 is the rejection
+-- "Submission tests 1 and 3 to 10", with 18 after 8; 10 is the rejection
 unfoldable pub refusedSubmit : Board → ℕ → Submission → ℕ
 refusedSubmit b n a =
     refusal
@@ -40,7 +40,7 @@ refusedInstant b i = refusal (unsound (soundBoard b) ∷ instantTests (b .now) i
 unfoldable pub refusedWithdraw : Board → ℕ → ℕ
 refusedWithdraw b n = refusal (unsound (soundBoard b) ∷ withdrawTests (known n (b .tasks)) (begunNamed n (b .tasks)))
 
--- "openings 1, 5, 6, 8 (id not read)"
+-- "openings 1, 5, 6, 8 (id not read)", then 18
 unfoldable pub refusedOpenings : Board → Submission → ℕ
 refusedOpenings b a = refusal (unsound (soundBoard b) ∷ openingsTests (b .device) (b .now) a)
 

@@ -95,7 +95,7 @@ fn mark_for<'a>(planner: u8, live: &'a Live, n: usize, masks: &'a mut Masks)
     sorting::mark(live, n, masks);
 }
 
-// What a task submitted to a sound board is answered, its live tasks lent: 3 to 9, a place, or the rejection. `free` is the lowest
+// What a task submitted to a sound board is answered, its live tasks lent: 3 to 9 or 18, a place, or the rejection. `free` is the lowest
 // free slot.
 pub fn decide<'a>(
     live: &'a Live,
@@ -189,7 +189,7 @@ impl Board {
         soundness::is_sound(self.device, self.now, tasks)
     }
 
-    // A task submitted to a planner: 1, 3 to 9; a place, or the rejection.
+    // A task submitted to a planner: 1, 3 to 9, 18; a place, or the rejection.
     pub fn submit(self, planner: u8, a: Submission) -> Submitted
         ensures { λ r. ⌜ r ≡ submitted self planner a ⌝ }
         ensures { λ r. ⌜ told (r .answer) ≡ told (submitted self planner a .answer) ⌝ }
@@ -308,7 +308,7 @@ impl Board {
         }
     }
 
-    // The openings for a task strictly after a pair, as many as the lent buffer has room for, start and column each: 1, 5, 6, 8.
+    // The openings for a task strictly after a pair, as many as the lent buffer has room for, start and column each: 1, 5, 6, 8, 18.
     pub fn openings(self, a: Submission, start: u32, column: u32, buffer: &mut [u32]) -> Opened
         ensures { λ r. ⌜ r ≡ opened self a start column (length (now (buffer .entry))) ⌝ }
         ensures { λ r. ⌜ now (buffer .exit) ≡ openedBuffer self a start column (now (buffer .entry)) ⌝ }

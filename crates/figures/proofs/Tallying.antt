@@ -1,7 +1,7 @@
 -- Event by event: what `figures::count_event` has counted. Assumes nothing.
 use Prim.Native.Nat.{ℕ, _+_, _-_, _<_}
 use mathlib.Core.Path.{_≡_, sym, ap, _∙_}
-use mathlib.Core.Bool.{Bool, true, false, cond, _&&_}
+use mathlib.Core.Bool.{Bool, true, false, cond, _&&_, _||_}
 use mathlib.Core.List.{List, [], _∷_, append-nil}
 use native.Mathlib.Omega.{arith}
 use lib.Dec.{leb, eqb}
@@ -29,7 +29,7 @@ class-few l = go (leb 1 l && leb l 50) (leb 51 l && leb l 100) (leb 101 l && leb
     go false false false = omega arith
 
 pub fate-few : (n : ℕ) → fateOf n < 4
-fate-few n = go (eqb n 0) (eqb n 10) (eqb n 9)
+fate-few n = go (eqb n 0) (eqb n 10) (eqb n 9 || eqb n 18)
   where
     go : (a b c : Bool) → cond a 0 (cond b 1 (cond c 2 3)) < 4
     go true b c = omega arith

@@ -1,6 +1,6 @@
 -- THE ACCEPTANCE FIGURES of a recording, stated from its events. Assumes nothing.
 use Prim.Native.Nat.{ℕ, _+_, _-_, _/_, _%_}
-use mathlib.Core.Bool.{Bool, cond, _&&_}
+use mathlib.Core.Bool.{Bool, cond, _&&_, _||_}
 use mathlib.Core.List.{List, [], _∷_, _++_}
 use lib.Dec.{ltb, eqb}
 use lib.ListN.{length}
@@ -28,9 +28,9 @@ trialsFrom s (v ∷ vs) =
     record { now = s .board .now; event = v; answer = o .answer .number; start = o .answer .start } ∷ trialsFrom (o .state) vs
 
 -- THE ONE MAP from an answer's number to a line of the summary: "taken, rejected and refused" are 0 to 2;
--- "A submission refused with 1 or 3 to 8 is counted in one refused line without class": 3
+-- "A submission refused with 1 or 3 to 8 is counted in one refused line without class": 3; Q-2: one refused with 18 "is a refused one"
 abbrev pub fateOf : ℕ → ℕ
-fateOf n = cond (eqb n 0) 0 (cond (eqb n 10) 1 (cond (eqb n 9) 2 3))
+fateOf n = cond (eqb n 0) 0 (cond (eqb n 10) 1 (cond (eqb n 9 || eqb n 18) 2 3))
 
 -- what came of an event, where it is a submission; "ticks waited (start less arrival)"
 unfoldable pub verdictOf : ℕ → Event → ℕ → ℕ → List Verdict

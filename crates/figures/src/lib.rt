@@ -31,7 +31,7 @@ fn fate_of(answer: u32) -> u8
     if answer == 10 {
         return 1;
     }
-    if answer == 9 {
+    if (answer == 9) | (answer == 18) {
         return 2;
     }
     3

@@ -1,7 +1,11 @@
-// Laxity, and its classes.
+// Laxity, its limit, and its classes.
 ghost use mathlib.Core.Path.{_≡_};
 ghost use Prim.Native.Nat.{_<_};
-ghost use Rattle.laxity.specs.Laxity.{laxity, classOf};
+ghost use lib.Dec.{ltb};
+ghost use Rattle.laxity.specs.Laxity.{laxity, mostLaxity, classOf};
+
+// The limit of document 02, Q-2.
+const MOST: u32 = 10_000_000;
 
 // "Laxity is d − e − arrival"; 0 where there is less.
 pub fn measure(arrival: u32, e: u32, d: u32) -> u32
@@ -15,6 +19,13 @@ pub fn measure(arrival: u32, e: u32, d: u32) -> u32
         return 0;
     }
     left - arrival
+}
+
+// "Refuse a laxity over 10,000,000".
+pub fn is_too_large(arrival: u32, e: u32, d: u32) -> bool
+    ensures { λ r. ⌜ r ≡ ltb mostLaxity (laxity arrival e d) ⌝ }
+{
+    MOST < measure(arrival, e, d)
 }
 
 // A, B, C and Other as 0 to 3: how many of the classes it is past, without a branch, which a processor would guess wrong.

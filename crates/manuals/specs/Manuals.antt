@@ -111,7 +111,7 @@ summaryHead =
     ++ ascii "\n"
     ++ ascii "Reads event records, each FILE a recording of its own, or one from standard input, and\n"
     ++ ascii "writes for each planner and laxity class how many tasks were submitted, taken, rejected\n"
-    ++ ascii "(10) and refused (9), the ticks waited (start less arrival) of those taken, and taken\n"
+    ++ ascii "(10) and refused (9, 18), the ticks waited (start less arrival) of those taken, and taken\n"
     ++ ascii "of submitted. Laxity is d - e - arrival: A is 1 to 50, B 51 to 100, C 101 to 200, Other\n"
     ++ ascii "the rest. Submissions refused otherwise are in one line without class. The last line\n"
     ++ ascii "has the events answered and the files read, and where it stopped: end, limit (after\n"

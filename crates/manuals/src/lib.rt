@@ -16,7 +16,7 @@ fn put_answers(out: &mut [u8], at: usize) -> usize
     text::put_bytes(
         out,
         at,
-        b"answers:\n  0 done\n  1 the board is not sound\n  2 W or H out of range\n  3 no such planner\n  4 the id is 0\n  5 width or height out of range\n  6 e or d out of range\n  7 the id is live already\n  8 d is before now + e\n  9 64 tasks are live\n  10 rejected: no place\n  11 the instant is before now\n  12 the instant is over 2000000000\n  13 the id is not live\n  14 the task is running\n  15 the record is cut short\n  16 unknown kind byte\n  17 the buffer is too short\n",
+        b"answers:\n  0 done\n  1 the board is not sound\n  2 W or H out of range\n  3 no such planner\n  4 the id is 0\n  5 width or height out of range\n  6 e or d out of range\n  7 the id is live already\n  8 d is before now + e\n  9 64 tasks are live\n  10 rejected: no place\n  11 the instant is before now\n  12 the instant is over 2000000000\n  13 the id is not live\n  14 the task is running\n  15 the record is cut short\n  16 unknown kind byte\n  17 the buffer is too short\n  18 the laxity is over 10000000\n",
     )
 }
 
@@ -95,7 +95,7 @@ pub fn put_summary(out: &mut [u8; 4096], help: bool) -> usize
     let at = text::put_bytes(
         out,
         0,
-        b"summary [--add] [FILE ..]\n\nReads event records, each FILE a recording of its own, or one from standard input, and\nwrites for each planner and laxity class how many tasks were submitted, taken, rejected\n(10) and refused (9), the ticks waited (start less arrival) of those taken, and taken\nof submitted. Laxity is d - e - arrival: A is 1 to 50, B 51 to 100, C 101 to 200, Other\nthe rest. Submissions refused otherwise are in one line without class. The last line\nhas the events answered and the files read, and where it stopped: end, limit (after\n1000000000 events), or 15 or 16 with the file, the event's number and the kind byte.\n\n  --add    reads summaries that end in `stop end`, one or more in each FILE or from\n           standard input, and writes their sum\n  --help   writes this\n\nexample: ./run record tests/summary/table1.txt | ./run summary\n\n",
+        b"summary [--add] [FILE ..]\n\nReads event records, each FILE a recording of its own, or one from standard input, and\nwrites for each planner and laxity class how many tasks were submitted, taken, rejected\n(10) and refused (9, 18), the ticks waited (start less arrival) of those taken, and taken\nof submitted. Laxity is d - e - arrival: A is 1 to 50, B 51 to 100, C 101 to 200, Other\nthe rest. Submissions refused otherwise are in one line without class. The last line\nhas the events answered and the files read, and where it stopped: end, limit (after\n1000000000 events), or 15 or 16 with the file, the event's number and the kind byte.\n\n  --add    reads summaries that end in `stop end`, one or more in each FILE or from\n           standard input, and writes their sum\n  --help   writes this\n\nexample: ./run record tests/summary/table1.txt | ./run summary\n\n",
     );
     put_answers(out, at)
 }

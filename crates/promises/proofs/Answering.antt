@@ -16,6 +16,7 @@ use Rattle.ways.specs.Ways.{pair}
 use Rattle.tasks.specs.declared.Task.{Task}
 use Rattle.tasks.specs.declared.Submission.{Submission}
 use Rattle.tasks.specs.Numbers.{within, sizeFits, timeFits, lastInstant, longest, lastPlanner, mostTasks}
+use Rattle.laxity.specs.Laxity.{laxity, mostLaxity}
 use Rattle.tasks.specs.Tasks.{live}
 use Rattle.tasks.proofs.Laws.{within-in}
 use Rattle.planners.specs.Openings.{Place, full}
@@ -53,6 +54,7 @@ allowed b n a h s k o =
     ∙ passed-over 6 (not (timeFits (a .e) (a .d))) _ (ap not (is-true (timeFits (a .e) (a .d)) timed))
     ∙ passed-over 7 (known (a .id) (b .tasks)) _ (is-false (known (a .id) (b .tasks)) (pass-none (named (a .id)) (b .tasks) unknown))
     ∙ passed-over 8 (ltb (a .d) (b .now + a .e)) _ (le-ltb (a .d) (b .now + a .e) (k .reachable))
+    ∙ passed-over 18 (ltb mostLaxity (laxity (b .now) (a .e) (a .d))) _ (le-ltb mostLaxity (laxity (b .now) (a .e) (a .d)) (k .lax))
     ∙ passed-over 9 (leb mostTasks (length (liveOf b))) [] (le-ltb 63 (length (liveOf b)) (omega (arith, o .room)))
     ∙ none-left
   where

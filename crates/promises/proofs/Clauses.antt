@@ -92,15 +92,19 @@ bad-time a = 6 when (Outside 1 1000000 (a .e) ⊎ (2000000000 < a .d))
 abbrev pub too-late : Board → Submission → Row
 too-late b a = 8 when (a .d < b .now + a .e)
 
+-- document 02, Q-2: "18, laxity too large": over 10,000,000
+abbrev pub too-lax : Board → Submission → Row
+too-lax b a = 18 when (b .now + a .e + 10000000 < a .d)
+
 -- "2 new board: W or H out of range"
 abbrev pub new-board-rows : ℕ → ℕ → List Row
 new-board-rows W H = (2 when (Outside 1 256 W ⊎ Outside 1 1024 H)) ∷ []
 
--- "Submission tests 1 and 3 to 10": "3 planner is not 0 to 3", "4 submitted id is 0", "7 id is live already", "9 64 tasks are live"; 10 is no refusal
+-- "Submission tests 1 and 3 to 10", and 18 "after 8 and before 9": "3 planner is not 0 to 3", "4 submitted id is 0", "7 id is live already", "9 64 tasks are live"; 10 is no refusal
 abbrev pub submission-rows : Board → ℕ → Submission → List Row
 submission-rows b n a =
     not-sound b ∷ (3 when (3 < n)) ∷ (4 when (a .id ≡ 0)) ∷ bad-size b a ∷ bad-time a ∷ (7 when LiveTask b (a .id)) ∷ too-late b a
-    ∷ (9 when (64 ≤ length (liveOf b))) ∷ []
+    ∷ too-lax b a ∷ (9 when (64 ≤ length (liveOf b))) ∷ []
 
 -- "clock 1, 11, 12", "busy count 1, 11, 12": "11 instant before now", "12 instant over 2,000,000,000"
 abbrev pub instant-rows : Board → ℕ → List Row
@@ -111,9 +115,9 @@ abbrev pub withdrawal-rows : Board → ℕ → List Row
 withdrawal-rows b n =
     not-sound b ∷ (13 when (LiveTask b n → ⊥)) ∷ (14 when ((k : LiveTask b n) × (k .task .phase ≡ Running))) ∷ []
 
--- "openings 1, 5, 6, 8 (id not read)"
+-- "openings 1, 5, 6, 8 (id not read)", then 18
 abbrev pub openings-rows : Board → Submission → List Row
-openings-rows b a = not-sound b ∷ bad-size b a ∷ bad-time a ∷ too-late b a ∷ []
+openings-rows b a = not-sound b ∷ bad-size b a ∷ bad-time a ∷ too-late b a ∷ too-lax b a ∷ []
 
 -- "horizon list 1, 17": "Fewer than three words a run gives 17"
 abbrev pub horizon-rows : Board → ℕ → List Row

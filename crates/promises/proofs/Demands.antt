@@ -6,8 +6,9 @@ use mathlib.Core.Bool.{false, true}
 use mathlib.Core.List.{List, [], _++_, _∷_}
 use native.Mathlib.Omega.{arith}
 use lib.ListN.{length, take, drop, getD, replicate}
-use lib.Dec.{T}
-use Rattle.lists.specs.Lists.{_∈_, head?, lastOr, pairwise?, all?, overFront}
+use lib.Dec.{T, eqb}
+use Rattle.lists.specs.Lists.{_∈_, head?, lastOr, some?, pairwise?, all?, overFront}
+use Rattle.lists.proofs.Members.{pass-some}
 use Rattle.lists.proofs.Order.{Sorted}
 use Rattle.ways.specs.Ways.{pair}
 use Rattle.tasks.specs.declared.Task.{Task}
@@ -32,7 +33,7 @@ use Rattle.board.specs.Refusals.{liveOf, refusedSubmit, refusedCreate, refusedI
 use Rattle.board.specs.Calls.{taken, submitted, clocked, withdrawn, remaining, opened, openedBuffer, listed, listedBuffer, counted, freshBoard, created}
 use Rattle.board.proofs.Kept.{SoundBoard}
 use Rattle.board.proofs.Window.{Reachable}
-use Rattle.board.proofs.Placed.{full-rejected, placed-opens}
+use Rattle.board.proofs.Placed.{full-rejected, placed-accepted, placed-opens}
 use Rattle.board.proofs.Asking.{given, IsOpening, given-first, left-opens, opens-left, left-ordered, none-missed, full-takes-given}
 use Rattle.board.proofs.Looked.{listed-board, counted-board}
 use Rattle.board.specs.Answers.{told}
@@ -43,11 +44,11 @@ use Rattle.events.proofs.RoundTrip.{Fits, Bytes, read-written, written-again}
 use Rattle.events.specs.declared.Reading.{Reading}
 use Rattle.events.specs.declared.Written.the-variants.{NoRoom, Length}
 use Rattle.events.proofs.Writing.{short-answer, short-buffer, room-answer, room-buffer}
-use Rattle.promises.proofs.Clauses.{Any, Row, First, Clear, Given, Holding, Rises, Reads, new-board-rows, submission-rows, instant-rows, withdrawal-rows, openings-rows}
+use Rattle.promises.proofs.Clauses.{Any, Row, First, Clear, Given, Holding, numbers, Rises, Reads, too-lax, new-board-rows, submission-rows, instant-rows, withdrawal-rows, openings-rows}
 use Rattle.promises.proofs.Clauses.{horizon-rows, Books, Ages, Removes, ListsRuns, CountsHeld, Stamps}
 use Rattle.promises.proofs.Following.{books, books-nothing, ages, removes, lists-runs, counts-held, opened-board, stamps, stamps-all, buffer-reads-back, buffer-written-again}
 use Rattle.promises.proofs.Settled.{books-settled, ages-settled, removes-settled, runs-settled, held-settled, stamps-settled}
-use Rattle.promises.proofs.Refusing.{first-refused, clear-done, told-given, given-once, clear-first, first-lowest, refused-first, what-reads, reads-that, decides-new-board}
+use Rattle.promises.proofs.Refusing.{first-refused, clear-done, told-given, given-once, clear-first, first-before, first-lowest, refused-first, what-reads, reads-that, decides-new-board}
 use Rattle.promises.proofs.Refusing.{decides-submission, decides-instant, decides-withdrawal, decides-openings, decides-horizon}
 use Rattle.promises.proofs.AskingOn.{allOpenings, reply, askingOn, saidMore, Roomy, ordered-once, from-none, reply-answers, reply-writes, more-true, more-false, asking-gives-all}
 use Rattle.promises.proofs.AskingOn.{asking-ends, asked-to-end}
@@ -74,7 +75,7 @@ pub demand-1-takes-any : Any new.Asked × Any is-sound.Asked × Any submit.Asked
 demand-1-takes-any =
     (λ κs a. tt, λ κs a. tt, λ κs a. tt, λ κs a. tt, λ κs a. tt, λ κs a. tt, λ κs a. tt, λ κs a. tt, λ κs a. tt, λ κs a. tt, λ κs a. tt, λ κs a. tt)
 
--- "Bad input gets the refusal number that document 01 fixes, in its order of checks; a refusal hands the board back as it came and writes nothing
+-- "Bad input gets the refusal number that document 01 fixes, in its order of checks" (18 is document 02's); "a refusal hands the board back as it came and writes nothing
 -- to a lent buffer." Each call's rows stand in Clauses: a number and when exactly it is given, in the order of its checks. `First rows k`: the first
 -- row that holds has the number k. `Clear rows`: none holds. `Given rows k`: k is the number of the first that holds, or 0 where none does.
 -- The first row that holds gives the whole answer:
@@ -158,15 +159,30 @@ demand-1-one-number = given-once
 pub demand-1-none-first : {rows : List Row} {k : ℕ} → Clear rows → First rows k → ⊥
 demand-1-none-first = clear-first
 
--- "Several at once: the lowest number wins": the numbers of every call's rows rise, and then no row that holds has a lower one than the first
+-- Several at once: the first in the order of the call's checks wins, so no row behind one that holds
+pub demand-1-first : (before : List Row) (r : Row) (after : List Row) {k : ℕ} → First (before ++ (r ∷ after)) k → r .given → k ∈ numbers (before ++ (r ∷ []))
+demand-1-first = first-before
+
+-- "18 .. tested after 8 and before 9; this is the first number out of rising order" (document 02, Q-2)
+pub demand-1-order : (b : Board) (n : ℕ) (a : Submission) → numbers (submission-rows b n a) ≡ 1 ∷ 3 ∷ 4 ∷ 5 ∷ 6 ∷ 7 ∷ 8 ∷ 18 ∷ 9 ∷ []
+demand-1-order b n a = refl
+
+-- "A task that is both too lax and refused 9 gets the new answer"
+pub demand-1-lax-before-full : (b : Board) (n : ℕ) (a : Submission) → submitted b n a .answer ≡ Refused 9 → b .now + a .e + 10000000 < a .d → ⊥
+unfolding some?
+demand-1-lax-before-full b n a e h =
+    let m = demand-1-first (take 7 (submission-rows b n a)) (too-lax b a) (drop 8 (submission-rows b n a)) (demand-1-submission-only b n a 9 e) h in
+    pass-some (eqb 9) (1 ∷ 3 ∷ 4 ∷ 5 ∷ 6 ∷ 7 ∷ 8 ∷ 18 ∷ []) m tt
+
+-- "Several at once: the lowest number wins": so it is for every other call, whose rows rise: no row that holds has a lower number than the first
 pub demand-1-lowest : {rows : List Row} {j k : ℕ} → Rises rows → First rows k → Holding rows j → k ≤ j
 demand-1-lowest = first-lowest
 
 pub demand-1-rising : (b : Board) (n i words : ℕ) (a : Submission)
-    → Rises (submission-rows b n a) × Rises (instant-rows b i) × Rises (withdrawal-rows b n) × Rises (openings-rows b a) × Rises (horizon-rows b words)
+    → Rises (instant-rows b i) × Rises (withdrawal-rows b n) × Rises (openings-rows b a) × Rises (horizon-rows b words)
     × Rises (new-board-rows n i)
 unfolding pairwise? all?
-demand-1-rising b n i words a = (tt, tt, tt, tt, tt, tt)
+demand-1-rising b n i words a = (tt, tt, tt, tt, tt)
 
 -- "Bad input gets the refusal number": the reader's 15, 16 and end, exactly when `Reads` says so, with "the kind byte, no event and 0 bytes taken"
 pub demand-1-reader : (l : List ℕ) → Reads l (readFrom l)
@@ -228,6 +244,13 @@ demand-2-released-run = released-run-opens
 -- whatever any planner places is an opening: it starts from now on, lies within the device, overlaps no live task (Definition 1), and meets the deadline
 pub demand-2-places : (b : Board) (n : ℕ) (a : Submission) {c s f : ℕ} → submitted b n a .answer ≡ Placed c s f → IsOpening b a (pair s c) × (f ≡ s + a .e)
 demand-2-places b n a e = placed-opens b n a e
+
+-- and from now to 10,000,000 ticks after it: no task "books a gap far beyond the session" (document 02, Q-2)
+pub demand-2-near : (b : Board) (n : ℕ) (a : Submission) {c s f : ℕ} → submitted b n a .answer ≡ Placed c s f → s ≤ b .now + 10000000
+demand-2-near b n a e =
+    let o = placed-opens b n a e .0 in
+    let k = placed-accepted b n a e in
+    omega (arith, o .in-time, k .reachable, k .lax)
 
 -- "new board, booking, clock, withdrawal, lists, counts and stamps follow its rules": the rules stand in Clauses, clause by clause.
 -- A new board "has the W and H asked for, now 0 and 64 free slots"
@@ -300,7 +323,8 @@ pub demand-2-buffer-written-again : (l : List ℕ) → Bytes l → (v : Event) (
     → (written v (length buffer) ≡ Length size) × (writtenBuffer v buffer ≡ take size l ++ drop size buffer)
 demand-2-buffer-written-again = buffer-written-again
 
--- DEMAND 3. "For a sound board and a well-formed task whose deadline can still be reached"
+-- DEMAND 3. "For a sound board and a well-formed task whose deadline can still be reached"; "Demand 3 then speaks of tasks within this laxity" (document 02, Q-2):
+-- `Reachable` says both
 module _ (b : Board) (a : Submission) (s : SoundBoard b) (k : Reachable b a) where
   -- "the list of openings holds every start from now on, and column within the device, that overlaps no live task and meets the deadline": each of these, and no other
   pub demand-3-every : (q : Place) → IsOpening b a q → q ∈ allOpenings b a

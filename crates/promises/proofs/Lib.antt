@@ -14,3 +14,4 @@ pub mod Recordings
 pub mod Stands
 pub mod Acceptance
 pub mod Tallied
+pub mod TooLax

@@ -25,7 +25,7 @@ use Rattle.board.specs.Calls.{orRefused, freshBoard, created, withTask, taken, 
 use Rattle.board.specs.Refusals.{refusal, refusedCreate, refusedSubmit, refusedInstant, refusedWithdraw, refusedOpenings, refusedHorizon}
 use Rattle.events.specs.Records.{bytesOf, numberOf, kindOf, bodyOf, recordOf, wholeOr15, readFrom, written, writtenBuffer, toldRead, toldWritten, idOf}
 use Rattle.session.specs.Recording.{firstState, lineOf, stopLine, outcome, storyFrom, story}
-use Rattle.promises.specs.Cases.{numbers, recordNumbers, afterEvent, play, same, sameAll, passes, at, only}
+use Rattle.promises.specs.Cases.{task, numbers, recordNumbers, afterEvent, play, same, sameAll, passes, at, only}
 use Rattle.promises.specs.Edges.{refusedList, endOf, filledUp, edgeSet}
 use Rattle.promises.specs.ProvingSet.{played, withDeadline, tableWith, withClocks, firstSix, seven, listing, provingSetOver, provingSet}
 use Rattle.promises.specs.ProvingSet.{twoRuns, waitingAhead, tellingSet, listingEvents, listingPrinted, recording}
@@ -94,6 +94,11 @@ pub edge-set : T (all? passes edgeSet)
 unfolding open-book
 edge-set = tt
 
+-- document 02, Q-2: with now 5 and e 4, openings up to 10,000,009 are not refused (the edges have 10,000,010; there are too many openings here to be listed by the checker)
+pub openings-lax : refusedOpenings (clocked (created 4 1 .board) 5 .board) (task 1 1 4 10000009) ≡ 0
+unfolding open-book
+openings-lax = refl
+
 -- THE LISTING OF DOCUMENT 01, from the bytes of its records to the bytes that `plan` prints
 pub listing-printed : planText false (recording listingEvents) ≡ record { out = listingPrinted; err = [] }
 unfolding open-book
@@ -119,6 +124,11 @@ pub words-printed : planText true (recordOf (NewBoard 4 1) ++ recordOf (Submit 9
     ≡ record { out = ascii "event kind answer column start finish id answer\n1 1 0 0 0 0 - 0 done\n2 2 3 0 0 0 17 3 no such planner\n"; err = [] }
 unfolding open-book
 words-printed = refl
+
+pub lax-printed : planText true (recordOf (NewBoard 4 1) ++ recordOf (Submit 3 (record { id = 17; e = 4; d = 10000005; w = 1; h = 1 })))
+    ≡ record { out = ascii "event kind answer column start finish id answer\n1 1 0 0 0 0 - 0 done\n2 2 18 0 0 0 17 18 the laxity is over 10000000\n"; err = [] }
+unfolding open-book
+lax-printed = refl
 
 -- after as many events as are left to read it stops without a line, and that many are left at the start
 pub stops-silently : listingText false (storyFrom 1 firstState 6 (recordOf (NewBoard 4 1) ++ recordOf (Clock 2)) .lines) ≡ ascii "7 1 0 0 0 0\n"

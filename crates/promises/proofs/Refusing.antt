@@ -3,7 +3,7 @@ use Prim.Native.Nat.{ℕ, zero, suc, _+_, _*_, _≤_, _<_}
 use mathlib.Core.Path.{_≡_, refl, sym, ap, _∙_, subst}
 use mathlib.Core.Logic.{_⊎_, inl, inr}
 use mathlib.Core.Bool.{Bool, true, false, not, _&&_}
-use mathlib.Core.List.{List, [], _∷_}
+use mathlib.Core.List.{List, [], _∷_, _++_, List·Memᴰ·head as first-of, List·Memᴰ·tail as later-of}
 use mathlib.Core.Option.{Option, none, some}
 use native.Mathlib.Omega.{arith}
 use native.Mathlib.Decide.{decLt}
@@ -16,11 +16,12 @@ use Rattle.tasks.specs.declared.Phase.{Phase}
 use Rattle.tasks.specs.declared.Phase.the-variants.{Ended, Waiting, Running}
 use Rattle.tasks.specs.declared.Submission.{Submission}
 use Rattle.tasks.specs.Numbers.{within, device, deviceFits, longest, lastInstant}
+use Rattle.laxity.specs.Laxity.{laxity, mostLaxity}
 use Rattle.tasks.specs.Tasks.{live, livePhase, waitingPhase}
 use Rattle.tasks.proofs.Laws.{within-out, within-in}
 use Rattle.slots.specs.Slots.{named, known, begunNamed}
 use Rattle.slots.proofs.Soundness.{sound-out, sound-in}
-use Rattle.refusals.specs.Refusals.{Test, refusal, unsound, badSize, badTime, createTests, submitTests, instantTests, withdrawTests, openingsTests, horizonTests}
+use Rattle.refusals.specs.Refusals.{Test, refusal, unsound, badSize, badTime, tooLax, createTests, submitTests, instantTests, withdrawTests, openingsTests, horizonTests}
 use Rattle.board.specs.declared.Board.{Board}
 use Rattle.board.specs.Refusals.{liveOf, soundBoard, horizonOf}
 use Rattle.board.specs.declared.Answer.the-variants.{Refused}
@@ -34,7 +35,7 @@ use Rattle.events.proofs.Found.{Found, got, cut as is-cut, none as no-kind, fou
 use Rattle.events.proofs.Calls.{judges-none}
 use Rattle.promises.proofs.Clauses.{Reads, at-end, whole, cut, unknown}
 use Rattle.promises.proofs.Clauses.{Row, _when_, First, this, later, Clear, empty, next, Given, done, refused, Holding, here, there, numbers, Rises, Outside, LiveTask}
-use Rattle.promises.proofs.Clauses.{not-sound, bad-size, bad-time, new-board-rows, submission-rows, instant-rows, withdrawal-rows, openings-rows, horizon-rows}
+use Rattle.promises.proofs.Clauses.{not-sound, bad-size, bad-time, too-lax, new-board-rows, submission-rows, instant-rows, withdrawal-rows, openings-rows, horizon-rows}
 
 -- TESTS AND ROWS: each test has the number of its row, and holds exactly when the row does
 pub record Decided (s : Test) (r : Row) : Type 1 where
@@ -94,6 +95,13 @@ given-once (done c p) (done d q) = p ∙ sym q
 given-once (done c p) (refused f q) = absurd (clear-first c f)
 given-once (refused f p) (done c q) = absurd (clear-first c f)
 given-once (refused f p) (refused g q) = first-once f g
+
+-- NO ROW BEHIND ONE THAT HOLDS WINS: the number given stands in front of it, or is its own
+pub first-before : (before : List Row) (r : Row) (after : List Row) {k : ℕ} → First (before ++ (r ∷ after)) k → r .given → k ∈ numbers (before ++ (r ∷ []))
+first-before [] r after (this g) h = first-of refl
+first-before [] r after (later f g) h = absurd (f h)
+first-before (x ∷ before) r after (this g) h = first-of refl
+first-before (x ∷ before) r after (later f g) h = later-of (first-before before r after g h)
 
 -- FIRST IS LOWEST where the numbers rise
 pub first-lowest : {rows : List Row} {k j : ℕ} → Rises rows → First rows k → Holding rows j → k ≤ j
@@ -219,6 +227,16 @@ module _ (b : Board) where
   is-below : (n : ℕ) → 0 < n → (x y : ℕ) → Decided (record { number = n; holds = ltb x y }) (n when (x < y))
   is-below n p x y = record { number = refl; some = p; to = ltb→lt x y; back = lt→ltb x y }
 
+  is-too-lax : (a : Submission) → Decided (tooLax (b .now) a) (too-lax b a)
+  is-too-lax a =
+      let l = laxity (b .now) (a .e) (a .d) in
+      record {
+        number = refl;
+        some = omega arith;
+        to = λ t. let h = ltb→lt mostLaxity l t in omega (arith, h);
+        back = λ h. lt→ltb mostLaxity l (omega (arith, h));
+      }
+
   -- a live task of an id, by the test over the slots
   known-live : (n : ℕ) → T (known n (b .tasks)) → LiveTask b n
   unfolding known named
@@ -271,7 +289,7 @@ module _ (b : Board) where
   decides-submission n a =
       row is-not-sound (row (is-below 3 (omega arith) 3 n) (row zero-id (row (is-bad-size a) (row (is-bad-time a)
       (row live-id
-      (row (is-below 8 (omega arith) (a .d) (b .now + a .e)) (row full end)))))))
+      (row (is-below 8 (omega arith) (a .d) (b .now + a .e)) (row (is-too-lax a) (row full end))))))))
     where
       zero-id : Decided (record { number = 4; holds = eqb (a .id) 0 }) (4 when (a .id ≡ 0))
       zero-id = record { number = refl; some = omega arith; to = eqb→eq (a .id) 0; back = λ e. rw e tt }
@@ -302,7 +320,7 @@ module _ (b : Board) where
 
   pub decides-openings : (a : Submission) → Decides (unsound (soundBoard b) ∷ openingsTests (b .device) (b .now) a) (openings-rows b a)
   decides-openings a =
-      row is-not-sound (row (is-bad-size a) (row (is-bad-time a) (row (is-below 8 (omega arith) (a .d) (b .now + a .e)) end)))
+      row is-not-sound (row (is-bad-size a) (row (is-bad-time a) (row (is-below 8 (omega arith) (a .d) (b .now + a .e)) (row (is-too-lax a) end))))
 
   pub decides-horizon : (words : ℕ) → Decides (unsound (soundBoard b) ∷ horizonTests (length (horizonOf b)) words) (horizon-rows b words)
   decides-horizon words = row is-not-sound (row (is-below 17 (omega arith) words (3 * length (horizonOf b))) end)

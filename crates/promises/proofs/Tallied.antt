@@ -1,14 +1,15 @@
--- The cases of request Q-1 hold: the checker computes them from the definitions. Assumes nothing.
+-- The cases of request Q-1, and of Q-2 in the summary, hold: the checker computes them from the definitions. Assumes nothing.
 use mathlib.Core.Path.{_≡_, refl}
 use mathlib.Core.List.{[], _∷_, _++_, map}
 use Rattle.text.specs.Text.{ascii}
-use Rattle.events.specs.declared.Event.the-variants.{NewBoard}
+use Rattle.events.specs.declared.Event.the-variants.{NewBoard, Submit, Clock}
 use Rattle.events.specs.Records.{recordOf}
 use Rattle.laxity.specs.Laxity.{classOf}
 use Rattle.sheets.specs.Sheets.{rowLine, rowIn, footText, sheetText}
 use Rattle.stops.specs.Stops.{stoppedAt, stopWords, stopMessage, stopSaid}
 use Rattle.figures.specs.Figures.{trialsFrom, verdictOf, verdicts, of, came, waitedIn, figuresOf, sheetWith, sheetOf}
 use Rattle.summing.specs.Summary.{sumFrom, summaryText}
+use Rattle.promises.specs.Cases.{ask}
 use Rattle.promises.specs.ProvingSet.{listingEvents}
 use Rattle.promises.specs.Accepted.{arrivals, tableEvents, figuresIn, fileOf, noneOf, listingSummary}
 use Rattle.promises.proofs.Proved.{open-book}
@@ -46,6 +47,11 @@ table-full = refl
 -- laxities 0, 1, 50, 51, 100, 101, 200, 201: Other, A, A, B, B, C, C, Other
 pub classes : map classOf (0 ∷ 1 ∷ 50 ∷ 51 ∷ 100 ∷ 101 ∷ 200 ∷ 201 ∷ []) ≡ 3 ∷ 0 ∷ 0 ∷ 1 ∷ 1 ∷ 2 ∷ 2 ∷ 3 ∷ []
 classes = refl
+
+-- document 02, Q-2: with now 5 and e 4, d 10,000,009 is taken and 10,000,010 "a refused one in class Other"
+pub lax-figures : figuresIn (NewBoard 4 1 ∷ Clock 5 ∷ Submit 0 (ask 1 1 1 4 10000009) ∷ Submit 0 (ask 2 1 1 4 10000010) ∷ []) 0 3 ≡ 2 ∷ 1 ∷ 0 ∷ 1 ∷ 0 ∷ []
+unfolding open-summary
+lax-figures = refl
 
 -- the summary stops at a 15, and says so; the file behind it is not read
 pub stops-in-file : summaryText (fileOf listingEvents ∷ record { name = ascii "cut.rec"; bytes = recordOf (NewBoard 4 1) ++ (3 ∷ 1 ∷ []) } ∷ fileOf listingEvents ∷ [])

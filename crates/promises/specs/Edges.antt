@@ -16,15 +16,15 @@ unfoldable pub endOf : ℕ → ℕ
 endOf c = cond (eqb c 5) 3 9
 
 -- CASE 11. 64 tasks, the one of id c in column c and slot c − 1. "64 live: the next gives 9 even where no place exists": with a place (Full, at 3 in
--- column 5), without one, and 8 first. "After one ends its slot is taken": that of slot 4 alone has ended, the next takes just that slot, and those
--- beside it stay; 64 are live again
+-- column 5), without one, and 8 first; 10,000,000 lax it gives 9, and past it 18: "A task that is both too lax and refused 9 gets the new answer" (02, Q-2).
+-- "After one ends its slot is taken": that of slot 4 alone has ended, the next takes just that slot, and those beside it stay; 64 are live again
 unfoldable pub filledUp : Case
 filledUp =
     case 64 1 (map (λ c. submit 0 c 1 1 (endOf c) 9) (range 1 64)
-    ++ (submit 3 65 1 1 1 9 ∷ submit 3 65 1 1 1 3 ∷ submit 3 65 1 1 1 0 ∷ slot 4 ∷ clock 3 ∷ slot 4
+    ++ (submit 3 65 1 1 1 9 ∷ submit 3 65 1 1 1 3 ∷ submit 3 65 1 1 1 0 ∷ submit 3 65 1 1 1 10000001 ∷ submit 3 65 1 1 1 10000002 ∷ slot 4 ∷ clock 3 ∷ slot 4
     ∷ submit 0 65 1 1 6 9 ∷ slot 3 ∷ slot 4 ∷ slot 5 ∷ submit 3 66 1 1 1 9 ∷ []))
     (map (λ c. at c 0 (endOf c)) (range 1 64)
-    ++ (only 9 ∷ only 9 ∷ only 8 ∷ (5 ∷ 1 ∷ 1 ∷ 3 ∷ 9 ∷ 5 ∷ 0 ∷ 2 ∷ []) ∷ only 0 ∷ replicate 8 0
+    ++ (only 9 ∷ only 9 ∷ only 8 ∷ only 9 ∷ only 18 ∷ (5 ∷ 1 ∷ 1 ∷ 3 ∷ 9 ∷ 5 ∷ 0 ∷ 2 ∷ []) ∷ only 0 ∷ replicate 8 0
     ∷ at 5 3 9 ∷ (4 ∷ 1 ∷ 1 ∷ 9 ∷ 9 ∷ 4 ∷ 0 ∷ 2 ∷ [])
     ∷ (65 ∷ 1 ∷ 1 ∷ 6 ∷ 9 ∷ 5 ∷ 3 ∷ 2 ∷ []) ∷ (6 ∷ 1 ∷ 1 ∷ 9 ∷ 9 ∷ 6 ∷ 0 ∷ 2 ∷ []) ∷ only 9 ∷ []))
 
@@ -39,13 +39,18 @@ edgeSet =
     -- submission: 3, 4, 5, 6 in this order, each at both ends of its range
     ∷ case 4 2 (submit 4 0 5 1 0 9 ∷ submit 255 1 1 1 1 9 ∷ submit 3 0 5 1 0 9 ∷ submit 0 1 5 1 0 9 ∷ submit 0 1 0 1 1 9 ∷ submit 0 1 1 3 1 9 ∷ submit 0 1 1 0 1 9 ∷ [])
     (only 3 ∷ only 3 ∷ only 4 ∷ only 5 ∷ only 5 ∷ only 5 ∷ only 5 ∷ [])
-    ∷ case 4 2 (submit 0 1 1 1 0 9 ∷ submit 0 1 1 1 1000001 1000001 ∷ submit 0 1 1 1 1 2000000001 ∷ submit 0 1 4 2 1000000 2000000000 ∷ [])
-    (only 6 ∷ only 6 ∷ only 6 ∷ at 1 0 1000000 ∷ [])
+    ∷ case 4 2 (submit 0 1 1 1 0 9 ∷ submit 0 1 1 1 1000001 1000001 ∷ submit 0 1 1 1 1 2000000001 ∷ clock 1989000000 ∷ submit 0 1 4 2 1000000 2000000000 ∷ [])
+    (only 6 ∷ only 6 ∷ only 6 ∷ only 0 ∷ at 1 1989000000 1990000000 ∷ [])
     ∷ case 4 2 (submit 0 4294967295 4 2 1 1 ∷ submit 0 1 1 1 1 0 ∷ clock 1 ∷ submit 0 1 1 1 1 1 ∷ submit 0 1 1 1 1 2 ∷ [])
     (at 1 0 1 ∷ only 8 ∷ only 0 ∷ only 8 ∷ at 1 1 2 ∷ [])
     -- 6 before 7, 7 before 8, 7 over all slots, and the id is free again when its task has ended
     ∷ case 4 1 (submit 0 7 1 1 2 9 ∷ submit 0 7 1 1 0 9 ∷ submit 0 7 1 1 1 0 ∷ submit 0 8 1 1 9 9 ∷ submit 0 8 1 1 1 9 ∷ clock 2 ∷ submit 0 7 1 1 1 9 ∷ [])
     (at 1 0 2 ∷ only 6 ∷ only 7 ∷ at 2 0 9 ∷ only 7 ∷ only 0 ∷ at 1 2 3 ∷ [])
+    -- document 02, Q-2: with now 5 and e 4, d 10,000,009 is done and 10,000,010 gives 18; d below now + e gives 8; 7 before 18; 6 before it, 2,000,000,001 apart
+    ∷ case 4 1 (clock 5 ∷ submit 0 1 1 1 4 10000009 ∷ submit 0 2 1 1 4 10000010 ∷ submit 0 2 1 1 4 8 ∷ submit 0 1 1 1 4 10000010
+    ∷ submit 0 2 1 1 4 2000000001 ∷ submit 0 2 1 1 4 2000000000 ∷ openings 1 1 4 10000010 0 0 3 ∷ openings 1 1 4 2000000001 0 0 3 ∷ openings 1 1 4 8 0 0 3 ∷ [])
+    (only 0 ∷ at 1 5 9 ∷ only 18 ∷ only 8 ∷ only 7 ∷ only 6 ∷ only 18
+    ∷ (18 ∷ 0 ∷ 0 ∷ replicate 3 999) ∷ (6 ∷ 0 ∷ 0 ∷ replicate 3 999) ∷ (8 ∷ 0 ∷ 0 ∷ replicate 3 999) ∷ [])
     -- rows are rows: a height over W but within H, before and after the clock
     ∷ case 1 2 (submit 0 1 1 2 1 9 ∷ clock 0 ∷ submit 0 2 1 3 1 9 ∷ clock 1 ∷ submit 0 2 1 2 1 9 ∷ []) (at 1 0 1 ∷ only 0 ∷ only 5 ∷ only 0 ∷ at 1 1 2 ∷ [])
     -- clock: 11 below now, 12 above 2,000,000,000, and the clock can go as far as that

@@ -25,6 +25,12 @@ unfolding refusal
 none-holds n true ts f e = absurd (f e)
 none-holds n false ts f e = (tt, e)
 
+-- a refusal of another number is that of the tests behind
+pub not-by : (n k : ℕ) (t : Bool) (ts : List Test) → (n ≡ k → ⊥) → refusal ((n when t) ∷ ts) ≡ k → refusal ts ≡ k
+unfolding refusal
+not-by n k true ts f e = absurd (f e)
+not-by n k false ts f e = e
+
 -- a sound board passes test 1, another is refused by it
 pub sound-passes : (s : Bool) (ts : List Test) → s ≡ true → refusal (unsound s ∷ ts) ≡ refusal ts
 sound-passes s ts e = passed-over 1 (not s) ts (ap not e)

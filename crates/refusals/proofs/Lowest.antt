@@ -1,9 +1,9 @@
--- "Several at once: the lowest number wins": the numbers of each list of document 01 rise, so the first is the lowest. Assumes nothing.
+-- The first test that holds wins. Its number is the lowest where the numbers of a list rise; those of a submission do not, since 18. Assumes nothing.
 use Prim.Native.Nat.{ℕ, _≤_}
-use mathlib.Core.Path.{_≡_, refl, sym, subst}
+use mathlib.Core.Path.{_≡_, refl, sym, _∙_, subst}
 use mathlib.Core.Logic.{_⊎_, inl, inr}
 use mathlib.Core.Bool.{Bool, true, false}
-use mathlib.Core.List.{List, [], _∷_, List·Memᴰ·cases-cons as cases, List·Memᴰ·not-nil as nowhere}
+use mathlib.Core.List.{List, [], _∷_, map, List·Memᴰ·cases-cons as cases, List·Memᴰ·not-nil as nowhere}
 use native.Mathlib.Omega.{arith}
 use lib.Dec.{T, ltb, ltb→lt}
 use Rattle.lists.specs.Lists.{_∈_, all?, pairwise?}
@@ -11,7 +11,9 @@ use Rattle.lists.proofs.Bools.{and-l, and-r}
 use Rattle.lists.proofs.Members.{all-pass}
 use Rattle.tasks.specs.declared.Device.{Device}
 use Rattle.tasks.specs.declared.Submission.{Submission}
-use Rattle.refusals.specs.Refusals.{Test, refusal, unsound, submitTests, instantTests, withdrawTests, openingsTests, horizonTests}
+use Rattle.laxity.specs.Laxity.{laxity, mostLaxity}
+use Rattle.refusals.specs.Refusals.{Test, _when_, refusal, unsound, submitTests, instantTests, withdrawTests, openingsTests, horizonTests}
+use Rattle.refusals.proofs.First.{passed-over, none-left, not-by}
 
 -- the numbers of a list rise
 abbrev pub Rising : List Test → Type 0
@@ -38,12 +40,29 @@ lowest (s ∷ ts) r t m h = by (s .holds) refl (cases m) (λ i. lowest ts (and-r
     by false e (inl z) k = absurd (subst T e (subst (λ x. T (x .holds)) z h))
     by false e (inr i) k = k i
 
--- every list of document 01 rises
+-- document 02, Q-2: "18 .. tested after 8 and before 9; this is the first number out of rising order"
 module _ (sound : Bool) where
-  pub submit-rises : (D : Device) (now n : ℕ) (a : Submission) (known full : Bool) → Rising (unsound sound ∷ submitTests D now n a known full)
-  unfolding pairwise? all?
-  submit-rises D now n a known full = tt
+  pub submit-order : (D : Device) (now n : ℕ) (a : Submission) (known full : Bool)
+      → map (λ t. t .number) (unsound sound ∷ submitTests D now n a known full) ≡ 1 ∷ 3 ∷ 4 ∷ 5 ∷ 6 ∷ 7 ∷ 8 ∷ 18 ∷ 9 ∷ []
+  submit-order D now n a known full = refl
 
+  -- and 18 is given only where the laxity is too large
+  pub refused-lax : (D : Device) (now n : ℕ) (a : Submission) (known full : Bool) → refusal (unsound sound ∷ submitTests D now n a known full) ≡ 18
+      → T (ltb mostLaxity (laxity now (a .e) (a .d)))
+  refused-lax D now n a known full e =
+      let b1 = not-by 1 18 _ _ (omega arith) e in
+      let b3 = not-by 3 18 _ _ (omega arith) b1 in
+      let b4 = not-by 4 18 _ _ (omega arith) b3 in
+      let b5 = not-by 5 18 _ _ (omega arith) b4 in
+      let b6 = not-by 6 18 _ _ (omega arith) b5 in
+      let b7 = not-by 7 18 _ _ (omega arith) b6 in
+      last (ltb mostLaxity (laxity now (a .e) (a .d))) (not-by 8 18 _ _ (omega arith) b7)
+    where
+      last : (t : Bool) → refusal ((18 when t) ∷ (9 when full) ∷ []) ≡ 18 → T t
+      last true e = tt
+      last false e = let z = not-by 9 18 full [] (omega arith) (sym (passed-over 18 false _ refl) ∙ e) in absurd (omega (arith, z, none-left))
+
+  -- every other list rises
   pub instant-rises : (now i : ℕ) → Rising (unsound sound ∷ instantTests now i)
   unfolding pairwise? all?
   instant-rises now i = tt

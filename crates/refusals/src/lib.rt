@@ -1,10 +1,19 @@
-// The refusals of a call after number 1: the tests of document 01 in its order. The board is known to be sound.
+// The refusals of a call after number 1: the tests in the order of documents 01 and 02. The board is known to be sound.
 ghost use mathlib.Core.Path.{_≡_};
+ghost use Prim.Native.Nat.{_+_};
+ghost use lib.Dec.{ltb};
 ghost use Rattle.refusals.specs.Refusals.{refusal, submitTests, instantTests, withdrawTests, openingsTests};
 use tasks::Device;
 use tasks::Submission;
 
-// Of a submission: 3 to 9, 0 where none holds. `known`: the id is live already; `full`: no slot is free.
+// "d < now + e".
+fn is_too_late(clock: u32, a: Submission) -> bool
+    ensures { λ r. ⌜ r ≡ ltb (a .d) (clock + a .e) ⌝ }
+{
+    (a.d as u64) < clock as u64 + a.e as u64
+}
+
+// Of a submission: 3 to 8, 18, 9, 0 where none holds. `known`: the id is live already; `full`: no slot is free.
 pub fn refuse_submission(
     on: Device,
     clock: u32,
@@ -30,8 +39,13 @@ pub fn refuse_submission(
     if known {
         return 7;
     }
-    if (a.d as u64) < clock as u64 + a.e as u64 {
+    let late = is_too_late(clock, a);
+    if late {
         return 8;
+    }
+    let lax = laxity::is_too_large(clock, a.e, a.d);
+    if lax {
+        return 18;
     }
     if full {
         return 9;
@@ -65,7 +79,7 @@ pub fn refuse_withdrawal(known: bool, begun: bool) -> u8
     0
 }
 
-// Of a request for openings: 5, 6, 8, 0 where none holds. The id is not read.
+// Of a request for openings: 5, 6, 8, 18, 0 where none holds. The id is not read.
 pub fn refuse_openings(on: Device, clock: u32, a: Submission) -> u8
     ensures { λ r. ⌜ r ≡ refusal (openingsTests on clock a) ⌝ }
 {
@@ -75,8 +89,11 @@ pub fn refuse_openings(on: Device, clock: u32, a: Submission) -> u8
     if !tasks::time_fits(a.e, a.d) {
         return 6;
     }
-    if (a.d as u64) < clock as u64 + a.e as u64 {
+    if is_too_late(clock, a) {
         return 8;
+    }
+    if laxity::is_too_large(clock, a.e, a.d) {
+        return 18;
     }
     0
 }

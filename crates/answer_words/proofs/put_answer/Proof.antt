@@ -16,8 +16,8 @@ says : {before after word answer : List ℕ} {at past : ℕ} → answer ≡ word
     → Put before at answer after past × (past ≤ at + 39)
 says {before} {at = at} e s p h = (record { stored = s ∙ ap (sets before at) (sym e); place = p ∙ ap (λ l. at + length l) (sym e) }, omega arith)
 
--- 01 gives no number past 17
-beyond : (n : ℕ) → 18 ≤ n → answerWords n ≡ []
+-- no number past 18 is given
+beyond : (n : ℕ) → 19 ≤ n → answerWords n ≡ []
 unfolding answerWords
 beyond n h = List·getD-eq-default answerTexts [] h
 
@@ -140,6 +140,12 @@ slice-aggregate-put-bytes-18 c = search needs
 
 put-bytes-requires-18 : tie.Need-put-bytes-requires-18
 put-bytes-requires-18 c κs = search needs
+
+slice-aggregate-put-bytes-19 : tie.Need-slice-aggregate-put-bytes-19
+slice-aggregate-put-bytes-19 c = search needs
+
+put-bytes-requires-19 : tie.Need-put-bytes-requires-19
+put-bytes-requires-19 c κs = search needs
 
 same-length : tie.Need-same-length
 same-length c = search needs
@@ -321,29 +327,40 @@ returns-18 c =
     let e = c .before .before .before .before .before .match .keys18 in
     says (ap answerWords e) (b .ensures .1) (b .ensures .0) (omega arith)
 
+same-length-19 : tie.Need-same-length-19
+same-length-19 c = search needs
+
 returns-19 : tie.Need-returns-19
+unfolding answerWords
 returns-19 c =
+    let b = c .before .before .put-bytes19 in
+    let e = c .before .before .before .before .before .match .keys19 in
+    says (ap answerWords e) (b .ensures .1) (b .ensures .0) (omega arith)
+
+returns-20 : tie.Need-returns-20
+returns-20 c =
     let r = c .match .rest in
-    let at1 = above 0 (c .before .before .args .number) (first (c .before .before .args .number)) (r .0 .0 .0 .0 .0 .0 .0 .0 .0 .0 .0 .0 .0 .0 .0 .0 .0 .1) in
-    let at2 = above 1 (c .before .before .args .number) at1 (r .0 .0 .0 .0 .0 .0 .0 .0 .0 .0 .0 .0 .0 .0 .0 .0 .1) in
-    let at3 = above 2 (c .before .before .args .number) at2 (r .0 .0 .0 .0 .0 .0 .0 .0 .0 .0 .0 .0 .0 .0 .0 .1) in
-    let at4 = above 3 (c .before .before .args .number) at3 (r .0 .0 .0 .0 .0 .0 .0 .0 .0 .0 .0 .0 .0 .0 .1) in
-    let at5 = above 4 (c .before .before .args .number) at4 (r .0 .0 .0 .0 .0 .0 .0 .0 .0 .0 .0 .0 .0 .1) in
-    let at6 = above 5 (c .before .before .args .number) at5 (r .0 .0 .0 .0 .0 .0 .0 .0 .0 .0 .0 .0 .1) in
-    let at7 = above 6 (c .before .before .args .number) at6 (r .0 .0 .0 .0 .0 .0 .0 .0 .0 .0 .0 .1) in
-    let at8 = above 7 (c .before .before .args .number) at7 (r .0 .0 .0 .0 .0 .0 .0 .0 .0 .0 .1) in
-    let at9 = above 8 (c .before .before .args .number) at8 (r .0 .0 .0 .0 .0 .0 .0 .0 .0 .1) in
-    let at10 = above 9 (c .before .before .args .number) at9 (r .0 .0 .0 .0 .0 .0 .0 .0 .1) in
-    let at11 = above 10 (c .before .before .args .number) at10 (r .0 .0 .0 .0 .0 .0 .0 .1) in
-    let at12 = above 11 (c .before .before .args .number) at11 (r .0 .0 .0 .0 .0 .0 .1) in
-    let at13 = above 12 (c .before .before .args .number) at12 (r .0 .0 .0 .0 .0 .1) in
-    let at14 = above 13 (c .before .before .args .number) at13 (r .0 .0 .0 .0 .1) in
-    let at15 = above 14 (c .before .before .args .number) at14 (r .0 .0 .0 .1) in
-    let at16 = above 15 (c .before .before .args .number) at15 (r .0 .0 .1) in
-    let at17 = above 16 (c .before .before .args .number) at16 (r .0 .1) in
-    let at18 = above 17 (c .before .before .args .number) at17 (r .1) in
+    let at1 = above 0 (c .before .before .args .number) (first (c .before .before .args .number)) (r .0 .0 .0 .0 .0 .0 .0 .0 .0 .0 .0 .0 .0 .0 .0 .0 .0 .0 .1) in
+    let at2 = above 1 (c .before .before .args .number) at1 (r .0 .0 .0 .0 .0 .0 .0 .0 .0 .0 .0 .0 .0 .0 .0 .0 .0 .1) in
+    let at3 = above 2 (c .before .before .args .number) at2 (r .0 .0 .0 .0 .0 .0 .0 .0 .0 .0 .0 .0 .0 .0 .0 .0 .1) in
+    let at4 = above 3 (c .before .before .args .number) at3 (r .0 .0 .0 .0 .0 .0 .0 .0 .0 .0 .0 .0 .0 .0 .0 .1) in
+    let at5 = above 4 (c .before .before .args .number) at4 (r .0 .0 .0 .0 .0 .0 .0 .0 .0 .0 .0 .0 .0 .0 .1) in
+    let at6 = above 5 (c .before .before .args .number) at5 (r .0 .0 .0 .0 .0 .0 .0 .0 .0 .0 .0 .0 .0 .1) in
+    let at7 = above 6 (c .before .before .args .number) at6 (r .0 .0 .0 .0 .0 .0 .0 .0 .0 .0 .0 .0 .1) in
+    let at8 = above 7 (c .before .before .args .number) at7 (r .0 .0 .0 .0 .0 .0 .0 .0 .0 .0 .0 .1) in
+    let at9 = above 8 (c .before .before .args .number) at8 (r .0 .0 .0 .0 .0 .0 .0 .0 .0 .0 .1) in
+    let at10 = above 9 (c .before .before .args .number) at9 (r .0 .0 .0 .0 .0 .0 .0 .0 .0 .1) in
+    let at11 = above 10 (c .before .before .args .number) at10 (r .0 .0 .0 .0 .0 .0 .0 .0 .1) in
+    let at12 = above 11 (c .before .before .args .number) at11 (r .0 .0 .0 .0 .0 .0 .0 .1) in
+    let at13 = above 12 (c .before .before .args .number) at12 (r .0 .0 .0 .0 .0 .0 .1) in
+    let at14 = above 13 (c .before .before .args .number) at13 (r .0 .0 .0 .0 .0 .1) in
+    let at15 = above 14 (c .before .before .args .number) at14 (r .0 .0 .0 .0 .1) in
+    let at16 = above 15 (c .before .before .args .number) at15 (r .0 .0 .0 .1) in
+    let at17 = above 16 (c .before .before .args .number) at16 (r .0 .0 .1) in
+    let at18 = above 17 (c .before .before .args .number) at17 (r .0 .1) in
+    let at19 = above 18 (c .before .before .args .number) at18 (r .1) in
     let a = c .before .before .args in
-    says-nothing (a .out .now) (a .at) (beyond (a .number) at18)
+    says-nothing (a .out .now) (a .at) (beyond (a .number) at19)
 
 pub put-answer-spec : {M : Type 1} → statement M
 put-answer-spec =
@@ -385,6 +402,8 @@ put-answer-spec =
     put-bytes-requires-17
     slice-aggregate-put-bytes-18
     put-bytes-requires-18
+    slice-aggregate-put-bytes-19
+    put-bytes-requires-19
     same-length
     returns
     same-length-2
@@ -421,4 +440,6 @@ put-answer-spec =
     returns-17
     same-length-18
     returns-18
-    returns-19)
+    same-length-19
+    returns-19
+    returns-20)

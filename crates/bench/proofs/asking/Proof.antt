@@ -7,13 +7,16 @@ use Rattle.bench.proofs.asking.Statement.{statement}
 use Rattle.bench.proofs.asking.Tie as tie
 
 abbrev Inv-loop : tie.InvT-loop
-Inv-loop a from on buffer₀ rounds board₀ pair₀ sum₀ round₀ buffer board pair sum round = length buffer ≡ length buffer₀
+Inv-loop a from on buffer₀ rounds clock board₀ pair₀ sum₀ round₀ buffer board pair sum round = length buffer ≡ length buffer₀
 
 abbrev μ-loop : tie.MeasureT-loop
-μ-loop a from on buffer₀ rounds board₀ pair₀ sum₀ round₀ buffer board pair sum round = rounds - round
+μ-loop a from on buffer₀ rounds clock board₀ pair₀ sum₀ round₀ buffer board pair sum round = rounds - round
 
 loop-holds : tie.Need-loop-holds Inv-loop μ-loop
 loop-holds c = search needs
+
+later-requires : tie.Need-later-requires Inv-loop μ-loop
+later-requires c κs = search needs
 
 openings-requires : tie.Need-openings-requires Inv-loop μ-loop
 openings-requires c κs = search needs
@@ -52,6 +55,7 @@ asking-spec =
     Inv-loop
     μ-loop
     loop-holds
+    later-requires
     openings-requires
     last-pair-requires
     counted-requires

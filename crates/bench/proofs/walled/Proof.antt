@@ -13,6 +13,9 @@ abbrev μ-loop : tie.MeasureT-loop
 new-requires : tie.Need-new-requires Inv-loop μ-loop
 new-requires c κs = search needs
 
+clock-requires : tie.Need-clock-requires Inv-loop μ-loop
+clock-requires c κs = search needs
+
 loop-holds : tie.Need-loop-holds Inv-loop μ-loop
 loop-holds c = tt
 
@@ -38,6 +41,7 @@ walled-spec =
     Inv-loop
     μ-loop
     new-requires
+    clock-requires
     loop-holds
     add-i
     submit-requires

@@ -10,10 +10,10 @@ returns-2 : tie.Need-returns-2
 returns-2 c = rw (ne-eqb _ 0 (c .before .if1 .left), eq-eqb _ 10 (c .if2 .taken))
 
 returns-3 : tie.Need-returns-3
-returns-3 c = rw (ne-eqb _ 0 (c .before .before .if1 .left), ne-eqb _ 10 (c .before .if2 .left), eq-eqb _ 9 (c .if3 .taken))
+returns-3 c = rw (ne-eqb _ 0 (c .before .before .if1 .left), ne-eqb _ 10 (c .before .if2 .left), c .if3 .taken)
 
 returns-4 : tie.Need-returns-4
-returns-4 c = rw (ne-eqb _ 0 (c .before .before .if1 .left), ne-eqb _ 10 (c .before .if2 .left), ne-eqb _ 9 (c .if3 .left))
+returns-4 c = rw (ne-eqb _ 0 (c .before .before .if1 .left), ne-eqb _ 10 (c .before .if2 .left), c .if3 .left)
 
 pub fate-of-spec : {M : Type 1} → statement M
 fate-of-spec = tie.close (tie.spec returns returns-2 returns-3 returns-4)

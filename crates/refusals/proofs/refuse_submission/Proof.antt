@@ -1,5 +1,5 @@
 -- `refusals::refuse_submission` meets its contract: behind each test that does not hold stand the tests that are left. Assumes nothing.
-use Prim.Native.Nat.{ℕ, _+_}
+use Prim.Native.Nat.{ℕ}
 use mathlib.Core.Path.{_≡_, sym, ap, _∙_}
 use mathlib.Core.Bool.{not}
 use mathlib.Core.List.{List}
@@ -34,12 +34,12 @@ behind-6 p = behind-5 (p .before .before) ∙ passed-over 6 _ _ (sym (ap not (p 
 behind-7 : (p : tie.Else5) → Behind 5 (p .before .before .before .before .before .before .before .before)
 behind-7 p = behind-6 (p .before) ∙ passed-over 7 _ _ (p .if5 .left)
 
-behind-8 : (p : tie.Else6)
-    → Behind 6 (p .before .before .before .before .before .before .before .before .before .before .before)
-behind-8 p =
-    let q = p .before .before .before in
-    let a = q .before .before .before .before .before .before .before .before .args in
-    behind-7 q ∙ passed-over 8 _ _ (le-ltb (a .a .d) (a .clock + a .a .e) (p .if6 .left))
+behind-8 : (p : tie.Else6) → Behind 6 (p .before .before .before .before .before .before .before .before .before .before)
+behind-8 p = behind-7 (p .before .before) ∙ passed-over 8 _ _ (sym (p .before .is-too-late .ensures) ∙ p .if6 .left)
+
+behind-18 : (p : tie.Else7)
+    → Behind 7 (p .before .before .before .before .before .before .before .before .before .before .before .before)
+behind-18 p = behind-8 (p .before .before) ∙ passed-over 18 _ _ (sym (p .before .is-too-large .ensures) ∙ p .if7 .left)
 
 returns : tie.Need-returns
 returns c = sym (refused-by 3 _ _ (lt-ltb 3 (c .before .args .planner) (c .if1 .taken)))
@@ -62,26 +62,23 @@ returns-4 c = sym (behind-5 (c .before .before) ∙ refused-by 6 _ _ (sym (ap no
 returns-5 : tie.Need-returns-5
 returns-5 c = sym (behind-6 (c .before) ∙ refused-by 7 _ _ (c .if5 .taken))
 
-cast-if6 : tie.Need-cast-if6
-cast-if6 c = search needs
-
-cast-if6-2 : tie.Need-cast-if6-2
-cast-if6-2 c = search needs
-
-add-if6 : tie.Need-add-if6
-add-if6 c = search needs
+is-too-late-requires : tie.Need-is-too-late-requires
+is-too-late-requires c κs = search needs
 
 returns-6 : tie.Need-returns-6
-returns-6 c =
-    let q = c .before .before .before in
-    let a = q .before .before .before .before .before .before .before .before .args in
-    sym (behind-7 q ∙ refused-by 8 _ _ (lt-ltb (a .a .d) (a .clock + a .a .e) (c .if6 .taken)))
+returns-6 c = sym (behind-7 (c .before .before) ∙ refused-by 8 _ _ (sym (c .before .is-too-late .ensures) ∙ c .if6 .taken))
+
+is-too-large-requires : tie.Need-is-too-large-requires
+is-too-large-requires c κs = search needs
 
 returns-7 : tie.Need-returns-7
-returns-7 c = sym (behind-8 (c .before) ∙ refused-by 9 _ _ (c .if7 .taken))
+returns-7 c = sym (behind-8 (c .before .before) ∙ refused-by 18 _ _ (sym (c .before .is-too-large .ensures) ∙ c .if7 .taken))
 
 returns-8 : tie.Need-returns-8
-returns-8 c = sym (behind-8 (c .before) ∙ passed-over 9 _ _ (c .if7 .left) ∙ none-left)
+returns-8 c = sym (behind-18 (c .before) ∙ refused-by 9 _ _ (c .if8 .taken))
+
+returns-9 : tie.Need-returns-9
+returns-9 c = sym (behind-18 (c .before) ∙ passed-over 9 _ _ (c .if8 .left) ∙ none-left)
 
 pub refuse-submission-spec : {M : Type 1} → statement M
 refuse-submission-spec =
@@ -94,9 +91,9 @@ refuse-submission-spec =
     time-fits-requires
     returns-4
     returns-5
-    cast-if6
-    cast-if6-2
-    add-if6
+    is-too-late-requires
     returns-6
+    is-too-large-requires
     returns-7
-    returns-8)
+    returns-8
+    returns-9)
