@@ -6,7 +6,8 @@
 #     RECORDINGS    how many (default 200), by turns of every profile of the generator, of 1 to 300 events
 #     QUESTIONS     how many of each recording (default 12)
 #   environment:
-#     SEED=N        first seed (default: from the clock); the same arguments and seed make the same recordings and questions
+#     SEED=N        first seed (default: from the clock); the same arguments and seed make the same recordings, not the same
+#                   questions (bash draws anew in each subshell); where one differs it is kept
 #     RUN=COMMAND   put before ASK-PROGRAM, as RUN=qemu-x86_64
 #
 # What is printed must be equal, and so must the message on a recording that ends in 15 or 16; after a wrong question both
@@ -17,7 +18,7 @@
 set -u
 here=$(cd "$(dirname "$0")" && pwd -P)
 fail() { echo "ask.sh: $*" >&2; exit 2; }
-[ $# -ge 1 ] || { sed -n '2,11p' "$0" >&2; exit 2; }
+[ $# -ge 1 ] || { sed -n '2,12p' "$0" >&2; exit 2; }
 ask=$1 recordings=${2:-200} questions=${3:-12}
 case $ask in */*) ;; *) [ -f "$ask" ] && ask=./$ask ;; esac
 [ -f "$ask" ] || fail "no file $ask"

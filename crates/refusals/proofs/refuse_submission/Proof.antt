@@ -1,12 +1,13 @@
 -- `refusals::refuse_submission` meets its contract: behind each test that does not hold stand the tests that are left. Assumes nothing.
 use Prim.Native.Nat.{ℕ}
-use mathlib.Core.Path.{_≡_, sym, ap, _∙_}
-use mathlib.Core.Bool.{not}
-use mathlib.Core.List.{List}
+use mathlib.Core.Path.{_≡_, refl, sym, ap, ap₂, _∙_}
+use mathlib.Core.Bool.{Bool, true, false, not, _||_}
+use mathlib.Core.List.{List, [], _∷_}
+use native.Mathlib.Omega.{arith}
 use lib.ListN.{drop}
 use borrow.Author.Tests.{lt-ltb, le-ltb, eq-eqb, ne-eqb}
-use Rattle.refusals.specs.Refusals.{Test, refusal, submitTests}
-use Rattle.refusals.proofs.First.{refused-by, passed-over, none-left}
+use Rattle.refusals.specs.Refusals.{Test, _when_, refusal, submitTests}
+use Rattle.refusals.proofs.First.{refused-by, passed-over}
 use borrow.Author.Needs.{needs}
 use Rattle.refusals.proofs.refuse_submission.Statement.{statement}
 use Rattle.refusals.proofs.refuse_submission.Tie as tie
@@ -34,12 +35,30 @@ behind-6 p = behind-5 (p .before .before) ∙ passed-over 6 _ _ (sym (ap not (p 
 behind-7 : (p : tie.Else5) → Behind 5 (p .before .before .before .before .before .before .before .before)
 behind-7 p = behind-6 (p .before) ∙ passed-over 7 _ _ (p .if5 .left)
 
-behind-8 : (p : tie.Else6) → Behind 6 (p .before .before .before .before .before .before .before .before .before .before)
-behind-8 p = behind-7 (p .before .before) ∙ passed-over 8 _ _ (sym (p .before .is-too-late .ensures) ∙ p .if6 .left)
+-- the last three by what was measured of them
+abbrev three : Bool → Bool → Bool → ℕ
+three late lax full = refusal ((8 when late) ∷ (18 when lax) ∷ (9 when full) ∷ [])
 
-behind-18 : (p : tie.Else7)
-    → Behind 7 (p .before .before .before .before .before .before .before .before .before .before .before .before)
-behind-18 p = behind-8 (p .before .before) ∙ passed-over 18 _ _ (sym (p .before .is-too-large .ensures) ∙ p .if7 .left)
+measured : (p : tie.After-is-too-large)
+    → refusal (tests (p .before .before .before .before .before .before .before .before .before .before))
+    ≡ three (p .before .is-too-late .result) (p .is-too-large .result) (p .before .before .before .before .before .before .before .before .before .before .args .full)
+measured p =
+    let full = p .before .before .before .before .before .before .before .before .before .before .args .full in
+    behind-7 (p .before .before) ∙ ap₂ (λ late lax. three late lax full) (sym (p .before .is-too-late .ensures)) (sym (p .is-too-large .ensures))
+
+none-of-three : (late lax full : Bool) → not ((late || lax) || full) ≡ true → three late lax full ≡ 0
+unfolding refusal
+none-of-three true lax full e = absurd (let z : _≡_ {A = ℕ} 0 1 = cc in omega arith)
+none-of-three false true full e = absurd (let z : _≡_ {A = ℕ} 0 1 = cc in omega arith)
+none-of-three false false true e = absurd (let z : _≡_ {A = ℕ} 0 1 = cc in omega arith)
+none-of-three false false false e = refl
+
+last-of-three : (late lax full : Bool) → not ((late || lax) || full) ≡ false → late ≡ false → lax ≡ false → three late lax full ≡ 9
+unfolding refusal
+last-of-three true lax full e p q = absurd (let z : _≡_ {A = ℕ} 0 1 = cc in omega arith)
+last-of-three false true full e p q = absurd (let z : _≡_ {A = ℕ} 0 1 = cc in omega arith)
+last-of-three false false true e p q = refl
+last-of-three false false false e p q = absurd (let z : _≡_ {A = ℕ} 0 1 = cc in omega arith)
 
 returns : tie.Need-returns
 returns c = sym (refused-by 3 _ _ (lt-ltb 3 (c .before .args .planner) (c .if1 .taken)))
@@ -65,20 +84,20 @@ returns-5 c = sym (behind-6 (c .before) ∙ refused-by 7 _ _ (c .if5 .taken))
 is-too-late-requires : tie.Need-is-too-late-requires
 is-too-late-requires c κs = search needs
 
-returns-6 : tie.Need-returns-6
-returns-6 c = sym (behind-7 (c .before .before) ∙ refused-by 8 _ _ (sym (c .before .is-too-late .ensures) ∙ c .if6 .taken))
-
 is-too-large-requires : tie.Need-is-too-large-requires
 is-too-large-requires c κs = search needs
 
+returns-6 : tie.Need-returns-6
+returns-6 c = sym (measured (c .before) ∙ none-of-three _ _ _ (c .if6 .taken))
+
 returns-7 : tie.Need-returns-7
-returns-7 c = sym (behind-8 (c .before .before) ∙ refused-by 18 _ _ (sym (c .before .is-too-large .ensures) ∙ c .if7 .taken))
+returns-7 c = sym (measured (c .before .before) ∙ refused-by 8 _ _ (c .if7 .taken))
 
 returns-8 : tie.Need-returns-8
-returns-8 c = sym (behind-18 (c .before) ∙ refused-by 9 _ _ (c .if8 .taken))
+returns-8 c = sym (measured (c .before .before .before) ∙ passed-over 8 _ _ (c .before .if7 .left) ∙ refused-by 18 _ _ (c .if8 .taken))
 
 returns-9 : tie.Need-returns-9
-returns-9 c = sym (behind-18 (c .before) ∙ passed-over 9 _ _ (c .if8 .left) ∙ none-left)
+returns-9 c = sym (measured (c .before .before .before) ∙ last-of-three _ _ _ (c .before .before .if6 .left) (c .before .if7 .left) (c .if8 .left))
 
 pub refuse-submission-spec : {M : Type 1} → statement M
 refuse-submission-spec =
@@ -92,8 +111,8 @@ refuse-submission-spec =
     returns-4
     returns-5
     is-too-late-requires
-    returns-6
     is-too-large-requires
+    returns-6
     returns-7
     returns-8
     returns-9)
