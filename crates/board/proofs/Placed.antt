@@ -49,10 +49,6 @@ module _ (b : Board) (n : ℕ) (a : Submission) where
   taken-none none e = refl
   taken-none (some p) e = absurd (let z : _≡_ {A = ℕ} 0 1 = cc in omega arith)
 
-  -- what is placed was not refused
-  pub placed-accepted : {c s f : ℕ} → submitted b n a .answer ≡ Placed c s f → Accepted b n a
-  placed-accepted {c} {s} {f} e = submit-accepted b n a (unrefused (Placed c s f) e (λ k q. let z : _≡_ {A = ℕ} 0 1 = cc in omega arith))
-
   -- WHATEVER IS PLACED starts from now to d − e, lies within the device, meets no live task, and its finish is told
   pub placed-opens : {c s f : ℕ} → submitted b n a .answer ≡ Placed c s f → Opening (b .device .columns) (b .now) (liveOf b) a (pair s c) × (f ≡ s + a .e)
   placed-opens {c} {s} {f} e =

@@ -95,8 +95,8 @@ fn mark_for<'a>(planner: u8, live: &'a Live, n: usize, masks: &'a mut Masks)
     sorting::mark(live, n, masks);
 }
 
-// What a task submitted to a sound board is answered, its live tasks lent: 3 to 9 or 18, a place, or the rejection. `free` is the lowest
-// free slot.
+// What a task submitted to a sound board is answered, its live tasks lent: 3 to 9, 18, a place, or the rejection. `free` is the
+// lowest free slot.
 pub fn decide<'a>(
     live: &'a Live,
     masks: &'a Masks,

@@ -33,7 +33,7 @@ use Rattle.board.specs.Refusals.{liveOf, refusedSubmit, refusedCreate, refusedI
 use Rattle.board.specs.Calls.{taken, submitted, clocked, withdrawn, remaining, opened, openedBuffer, listed, listedBuffer, counted, freshBoard, created}
 use Rattle.board.proofs.Kept.{SoundBoard}
 use Rattle.board.proofs.Window.{Reachable}
-use Rattle.board.proofs.Placed.{full-rejected, placed-accepted, placed-opens}
+use Rattle.board.proofs.Placed.{full-rejected, placed-books, placed-opens}
 use Rattle.board.proofs.Asking.{given, IsOpening, given-first, left-opens, opens-left, left-ordered, none-missed, full-takes-given}
 use Rattle.board.proofs.Looked.{listed-board, counted-board}
 use Rattle.board.specs.Answers.{told}
@@ -248,9 +248,8 @@ demand-2-places b n a e = placed-opens b n a e
 -- and from now to 10,000,000 ticks after it: no task "books a gap far beyond the session" (document 02, Q-2)
 pub demand-2-near : (b : Board) (n : ℕ) (a : Submission) {c s f : ℕ} → submitted b n a .answer ≡ Placed c s f → s ≤ b .now + 10000000
 demand-2-near b n a e =
-    let o = placed-opens b n a e .0 in
-    let k = placed-accepted b n a e in
-    omega (arith, o .in-time, k .reachable, k .lax)
+    let k = placed-books b n a refl e .accepted in
+    omega (arith, placed-opens b n a e .0 .in-time, k .reachable, k .lax)
 
 -- "new board, booking, clock, withdrawal, lists, counts and stamps follow its rules": the rules stand in Clauses, clause by clause.
 -- A new board "has the W and H asked for, now 0 and 64 free slots"

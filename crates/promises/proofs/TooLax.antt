@@ -1,14 +1,15 @@
 -- A SUBMISSION REFUSED WITH 18 is in the summary "a refused one in class Other" (document 02, Q-2). Assumes nothing.
 use Prim.Native.Nat.{ℕ, zero, suc, _<_}
 use mathlib.Core.Path.{_≡_, refl, sym, ap, _∙_}
-use mathlib.Core.Bool.{true, false}
+use mathlib.Core.Bool.{cond}
 use mathlib.Core.List.{[], _∷_}
 use mathlib.Core.Option.{Option, none, some}
 use native.Mathlib.Omega.{arith}
-use borrow.Author.Tests.{lt-leb, le-leb}
+use borrow.Author.Tests.{le-leb}
 use lib.Dec.{ltb→lt, leb}
 use lib.ListN.{length}
 use Rattle.laxity.specs.Laxity.{laxity, mostLaxity, classOf}
+use Rattle.laxity.proofs.Classes.{past-classes}
 use Rattle.tasks.specs.declared.Submission.{Submission}
 use Rattle.planners.specs.Openings.{Place}
 use Rattle.planners.specs.Planners.{planned}
@@ -47,15 +48,12 @@ over-limit b n a e =
     ltb→lt mostLaxity (laxity (b .now) (a .e) (a .d))
     (refused-lax (soundBoard b) (b .device) (b .now) n a (known (a .id) (b .tasks)) (leb 64 (length (liveOf b))) (refused-with b n a e))
 
--- and so its class is Other
+-- and so its class is Other: it is past the other three
 other : (l : ℕ) → mostLaxity < l → classOf l ≡ 3
-other l h = rw (past 50 (omega arith), past 100 (omega arith), past 200 (omega arith), above 1 (omega arith), above 51 (omega arith), above 101 (omega arith))
+other l h = sym (past-classes l (λ e. omega (arith, h, e)) (past 51 (omega arith)) (past 101 (omega arith)) (past 201 (omega arith)))
   where
-    past : (n : ℕ) → n < mostLaxity → leb l n ≡ false
-    past n k = lt-leb l n (omega (arith, h, k))
-
-    above : (n : ℕ) → n < mostLaxity → leb n l ≡ true
-    above n k = le-leb n l (omega (arith, h, k))
+    past : (n : ℕ) → n < mostLaxity → _≡_ {A = ℕ} 1 (cond (leb n l) 1 0)
+    past n k = sym (ap (λ t. cond t 1 0) (le-leb n l (omega (arith, h, k))))
 
 pub lax-other : (s : State) (n : ℕ) (a : Ask) → outcome s (Submit n a) .answer .number ≡ 18
     → verdictOf (s .board .now) (Submit n a) (outcome s (Submit n a) .answer .number) (outcome s (Submit n a) .answer .start)

@@ -46,7 +46,7 @@ edgeSet =
     -- 6 before 7, 7 before 8, 7 over all slots, and the id is free again when its task has ended
     ∷ case 4 1 (submit 0 7 1 1 2 9 ∷ submit 0 7 1 1 0 9 ∷ submit 0 7 1 1 1 0 ∷ submit 0 8 1 1 9 9 ∷ submit 0 8 1 1 1 9 ∷ clock 2 ∷ submit 0 7 1 1 1 9 ∷ [])
     (at 1 0 2 ∷ only 6 ∷ only 7 ∷ at 2 0 9 ∷ only 7 ∷ only 0 ∷ at 1 2 3 ∷ [])
-    -- document 02, Q-2: with now 5 and e 4, d 10,000,009 is done and 10,000,010 gives 18; d below now + e gives 8; 7 before 18; 6 before it, 2,000,000,001 apart
+    -- document 02, Q-2: with now 5 and e 4, d 10,000,009 is done and 10,000,010 gives 18; d below now + e gives 8; 7 before 18, and 6 before it where d is over 2,000,000,000
     ∷ case 4 1 (clock 5 ∷ submit 0 1 1 1 4 10000009 ∷ submit 0 2 1 1 4 10000010 ∷ submit 0 2 1 1 4 8 ∷ submit 0 1 1 1 4 10000010
     ∷ submit 0 2 1 1 4 2000000001 ∷ submit 0 2 1 1 4 2000000000 ∷ openings 1 1 4 10000010 0 0 3 ∷ openings 1 1 4 2000000001 0 0 3 ∷ openings 1 1 4 8 0 0 3 ∷ [])
     (only 0 ∷ at 1 5 9 ∷ only 18 ∷ only 8 ∷ only 7 ∷ only 6 ∷ only 18

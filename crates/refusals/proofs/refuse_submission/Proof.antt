@@ -39,26 +39,30 @@ behind-7 p = behind-6 (p .before) ∙ passed-over 7 _ _ (p .if5 .left)
 abbrev three : Bool → Bool → Bool → ℕ
 three late lax full = refusal ((8 when late) ∷ (18 when lax) ∷ (9 when full) ∷ [])
 
+abbrev startOf : tie.After-is-too-large → tie.Start
+startOf p = p .before .before .before .before .before .before .before .before .before .before
+
 measured : (p : tie.After-is-too-large)
-    → refusal (tests (p .before .before .before .before .before .before .before .before .before .before))
-    ≡ three (p .before .is-too-late .result) (p .is-too-large .result) (p .before .before .before .before .before .before .before .before .before .before .args .full)
+    → refusal (tests (startOf p)) ≡ three (p .before .is-too-late .result) (p .is-too-large .result) (startOf p .args .full)
 measured p =
-    let full = p .before .before .before .before .before .before .before .before .before .before .args .full in
-    behind-7 (p .before .before) ∙ ap₂ (λ late lax. three late lax full) (sym (p .before .is-too-late .ensures)) (sym (p .is-too-large .ensures))
+    behind-7 (p .before .before) ∙ ap₂ (λ late lax. three late lax (startOf p .args .full)) (sym (p .before .is-too-late .ensures)) (sym (p .is-too-large .ensures))
+
+never : false ≡ true → ⊥
+never e = let z : _≡_ {A = ℕ} 0 1 = cc in omega arith
 
 none-of-three : (late lax full : Bool) → not ((late || lax) || full) ≡ true → three late lax full ≡ 0
 unfolding refusal
-none-of-three true lax full e = absurd (let z : _≡_ {A = ℕ} 0 1 = cc in omega arith)
-none-of-three false true full e = absurd (let z : _≡_ {A = ℕ} 0 1 = cc in omega arith)
-none-of-three false false true e = absurd (let z : _≡_ {A = ℕ} 0 1 = cc in omega arith)
+none-of-three true lax full e = absurd (never e)
+none-of-three false true full e = absurd (never e)
+none-of-three false false true e = absurd (never e)
 none-of-three false false false e = refl
 
 last-of-three : (late lax full : Bool) → not ((late || lax) || full) ≡ false → late ≡ false → lax ≡ false → three late lax full ≡ 9
 unfolding refusal
-last-of-three true lax full e p q = absurd (let z : _≡_ {A = ℕ} 0 1 = cc in omega arith)
-last-of-three false true full e p q = absurd (let z : _≡_ {A = ℕ} 0 1 = cc in omega arith)
+last-of-three true lax full e p q = absurd (never (sym p))
+last-of-three false true full e p q = absurd (never (sym q))
 last-of-three false false true e p q = refl
-last-of-three false false false e p q = absurd (let z : _≡_ {A = ℕ} 0 1 = cc in omega arith)
+last-of-three false false false e p q = absurd (never (sym e))
 
 returns : tie.Need-returns
 returns c = sym (refused-by 3 _ _ (lt-ltb 3 (c .before .args .planner) (c .if1 .taken)))
