@@ -76,6 +76,8 @@ unfolding allAgedTo
 aged-sound D now i ks s l h = record {
   columns = s .columns;
   rows = s .rows;
+  grid = s .grid;
+  stepped = s .stepped;
   clock = h;
   slots = length-map ks (agedTo i) ∙ s .slots;
   tasks = λ k m t. let r = map-in (agedTo i) ks m in subst (SoundTask D i) (sym (r .2)) (kept (r .0) (r .1) (subst (λ x. T (live x)) (r .2) t) (bool (live (r .0))) (decLe (finish (r .0)) i));
@@ -101,6 +103,8 @@ aged-sound D now i ks s l h = record {
           d = o .d;
           from-one = o .from-one;
           on-device = o .on-device;
+          stepped = o .stepped;
+          on-grid = o .on-grid;
           in-time = o .in-time;
           unfinished = q;
           phase = p;

@@ -29,6 +29,8 @@ module _ (D : Device) (now : ℕ) (ks : List Task) (s : Sound D now ks) where
   booked-sound k o f = record {
     columns = s .columns;
     rows = s .rows;
+    grid = s .grid;
+    stepped = s .stepped;
     clock = s .clock;
     slots = length-put freeTest k ks ∙ s .slots;
     tasks = λ l m t. pick l (put-in Together live freeTest k ks m) t;
@@ -50,6 +52,8 @@ module _ (D : Device) (now : ℕ) (ks : List Task) (s : Sound D now ks) where
   withdrawn-sound n = record {
     columns = s .columns;
     rows = s .rows;
+    grid = s .grid;
+    stepped = s .stepped;
     clock = s .clock;
     slots = length-put (named n) freeSlot ks ∙ s .slots;
     tasks = λ l m t. pick l (put-in Together live (named n) freeSlot ks m) t;

@@ -15,7 +15,7 @@ use Rattle.tasks.specs.declared.Device.{Device}
 use Rattle.tasks.specs.declared.Task.{Task}
 use Rattle.tasks.specs.Tasks.{finish, meets, livePhase, samePhase, phaseAt, live, freeSlot, zeros}
 use Rattle.tasks.proofs.Laws.{Between, within-out, within-in, Share, meets-share, share-meets, share-sym, zeros-free, phase-waiting, phase-running, is-waiting, is-running}
-use Rattle.tasks.specs.Numbers.{largestId, lastInstant, longest}
+use Rattle.tasks.specs.Numbers.{mostGrid, largestId, lastInstant, longest, multiple, mayBegin}
 use Rattle.slots.specs.Slots.{liveIn, taskSound, slotSound, together, sound}
 
 -- running exactly if its start is ≤ now, and otherwise waiting
@@ -32,6 +32,8 @@ pub record SoundTask (D : Device) (now : ℕ) (k : Task) : Type 0 where
   pub d : k .d ≤ lastInstant
   pub from-one : 1 ≤ k .column
   pub on-device : k .column + k .w ≤ suc (D .columns)
+  pub stepped : T (multiple (D .grid) (k .w))
+  pub on-grid : T (mayBegin (D .grid) (k .column))
   pub in-time : k .start + k .e ≤ k .d
   pub unfinished : now < k .start + k .e
   pub phase : InPhase now k
@@ -41,10 +43,12 @@ pub record Together (k l : Task) : Type 0 where
   pub ids : k .id ≡ l .id → ⊥
   pub apart : Share k l → ⊥
 
--- A SOUND BOARD: document 01, Numbers, clause by clause
+-- A SOUND BOARD: document 01, Numbers, clause by clause, and the grid of document 02, Q-3
 pub record Sound (D : Device) (now : ℕ) (ks : List Task) : Type 0 where
   pub columns : Between 1 256 (D .columns)
   pub rows : Between 1 1024 (D .rows)
+  pub grid : Between 1 mostGrid (D .grid)
+  pub stepped : T (multiple (D .grid) (D .columns))
   pub clock : now ≤ lastInstant
   pub slots : length ks ≡ 64
   pub tasks : (k : Task) → k ∈ ks → T (live k) → SoundTask D now k
@@ -78,6 +82,8 @@ task-out D now k l s = record {
   d = leb→le (k .d) lastInstant (search (and-l, and-r) depth 12);
   from-one = leb→le 1 (k .column) (search (and-l, and-r) depth 12);
   on-device = leb→le (k .column + k .w) (suc (D .columns)) (search (and-l, and-r) depth 12);
+  stepped = search (and-l, and-r) depth 12;
+  on-grid = search (and-l, and-r) depth 12;
   in-time = leb→le (finish k) (k .d) (search (and-l, and-r) depth 12);
   unfinished = ltb→lt now (finish k) (search (and-l, and-r) depth 12);
   phase = phase-out now k l (search (and-l, and-r) depth 12);
@@ -87,7 +93,7 @@ pub task-in : (D : Device) (now : ℕ) (k : Task) → SoundTask D now k → T (t
 unfolding taskSound
 task-in D now k s =
     let p = phase-in now k (s .unfinished) (s .phase) in
-    search (and-i, within-in, le→leb, s .id, s .w, s .h, s .e, p) depth 14
+    search (and-i, within-in, le→leb, s .id, s .w, s .h, s .e, p) depth 16
 
 pub together-out : (k l : Task) → T (together k l) → Together k l
 unfolding together
@@ -130,6 +136,8 @@ unfolding sound slotSound
 sound-out D now ks s = record {
   columns = within-out 1 256 (D .columns) (search (and-l, and-r) depth 12);
   rows = within-out 1 1024 (D .rows) (search (and-l, and-r) depth 12);
+  grid = within-out 1 mostGrid (D .grid) (search (and-l, and-r) depth 12);
+  stepped = search (and-l, and-r) depth 12;
   clock = leb→le now lastInstant (search (and-l, and-r) depth 12);
   slots = eqb→eq (length ks) 64 (search (and-l, and-r) depth 12);
   tasks = λ k m l. task-out D now k l (rw (is-true (live k) l) at (each k m));
@@ -146,7 +154,7 @@ sound-in D now ks s =
     let slots : T (eqb (length ks) 64) = rw (s .slots) tt in
     let every = pass-all (slotSound D now) ks each in
     let pairs = pairs-in (s .together) in
-    search (and-i, within-in, le→leb, s .columns, s .rows) depth 12
+    search (and-i, within-in, le→leb, s .columns, s .rows, s .grid) depth 14
   where
     step : (k : Task) → k ∈ ks → (b : Bool) → live k ≡ b → T (cond b (taskSound D now k) (zeros k))
     step k m true e = task-in D now k (s .tasks k m (rw e tt))

@@ -7,7 +7,7 @@ use lib.ListN.{length}
 use Rattle.lists.specs.Lists.{keep, some?, all?, pairwise?, putFirst}
 use Rattle.tasks.specs.declared.Device.{Device}
 use Rattle.tasks.specs.declared.Task.{Task}
-use Rattle.tasks.specs.Numbers.{mostTasks, lastInstant, largestId, within, deviceFits, sizeFits, timeFits}
+use Rattle.tasks.specs.Numbers.{mostTasks, lastInstant, largestId, within, mayBegin, deviceFits, sizeFits, timeFits}
 use Rattle.tasks.specs.Tasks.{finish, meets, live, waitingPhase, samePhase, phaseAt, stamped, freeSlot, zeros}
 
 -- the live tasks, by slot
@@ -15,11 +15,11 @@ abbrev pub liveIn : List Task → List Task
 liveIn ks = keep live ks
 
 -- "every live task is within the numbers above, ends by its deadline and ends after now;
--- a task is running exactly if its start is ≤ now and otherwise waiting"
+-- a task is running exactly if its start is ≤ now and otherwise waiting"; document 02, Q-3: it begins on the grid
 unfoldable pub taskSound : Device → ℕ → Task → Bool
 taskSound D now k =
     within 1 largestId (k .id) && sizeFits D (k .w) (k .h) && timeFits (k .e) (k .d)
-    && leb 1 (k .column) && leb (k .column + k .w) (suc (D .columns))
+    && leb 1 (k .column) && leb (k .column + k .w) (suc (D .columns)) && mayBegin (D .grid) (k .column)
     && leb (finish k) (k .d) && ltb now (finish k)
     && samePhase (k .phase) (phaseAt now k)
 
@@ -31,7 +31,7 @@ slotSound D now k = cond (live k) (taskSound D now k) (zeros k)
 unfoldable pub together : Task → Task → Bool
 together k l = not (eqb (k .id) (l .id)) && not (meets k l)
 
--- "A board is sound when W, H and now are in range", its 64 slots are and so is every two of its live tasks
+-- "A board is sound when W, H and now are in range", the grid too (document 02, Q-3), its 64 slots are and so is every two of its live tasks
 unfoldable pub sound : Device → ℕ → List Task → Bool
 sound D now ks =
     deviceFits D && leb now lastInstant && eqb (length ks) mostTasks && all? (slotSound D now) ks

@@ -7,18 +7,20 @@ ghost use Rattle.slots.specs.Slots.{taskSound, slotSound, agedTo, allAge
 use tasks::Device;
 use tasks::Task;
 
-// A live task within the numbers, done by its deadline and not before now, in the phase that it has at now.
+// A live task within the numbers, on the grid, done by its deadline and not before now, in the phase that it has at now.
 fn task_sound(on: Device, now: u32, k: Task) -> bool
     ensures { λ r. ⌜ r ≡ taskSound on now k ⌝ }
 {
     let size = tasks::size_fits(on, k.w, k.h);
     let time = tasks::time_fits(k.e, k.d);
+    let on_grid = tasks::may_begin(on.grid, k.column);
     let phase = tasks::in_phase(k, now);
     ((1 <= k.id) & (k.id <= tasks::LARGEST_ID))
         & size
         & time
         & (1 <= k.column)
         & (k.column as u32 + k.w as u32 <= on.columns as u32 + 1)
+        & on_grid
         & (k.start as u64 + k.e as u64 <= k.d as u64)
         & ((now as u64) < k.start as u64 + k.e as u64)
         & phase

@@ -1,13 +1,15 @@
 // The task's own record: what a slot of the board holds, and what a submission asks for.
 ghost use mathlib.Core.Path.{_≡_};
 ghost use Prim.Native.Nat.{_+_};
-ghost use Rattle.tasks.specs.Numbers.{deviceFits, sizeFits, timeFits};
+ghost use Rattle.tasks.specs.Numbers.{multiple, mayBegin, deviceFits, sizeFits, timeFits};
 ghost use Rattle.tasks.specs.Tasks.{live, waitingPhase, samePhase, phaseAt, stamped, freeSlot, zeros, booked};
 
 // The limits of document 01, "Numbers": each once.
 pub const MOST_COLUMNS: u16 = 256;
 
 pub const MOST_ROWS: u16 = 1024;
+
+pub const MOST_GRID: u8 = 16;
 
 pub const LONGEST: u32 = 1_000_000;
 
@@ -19,10 +21,11 @@ pub const MOST_TASKS: usize = 64;
 
 pub const LAST_PLANNER: u8 = 3;
 
-// The columns and rows of a board: what a task has to fit.
+// The columns and rows of a board, and the grid on which its columns come: what a task has to fit.
 pub struct Device {
     pub columns: u16,
     pub rows: u16,
+    pub grid: u8,
 }
 
 // "each record carries its phase: waiting, running or ended". Ended is first: a free slot is then all zeros.
@@ -148,18 +151,46 @@ pub fn stamp(k: Task, instant: u32) -> Task
     }
 }
 
-// "W 1 to 256; H 1 to 1,024".
+// Whether n is a multiple of the grid. Only a device that is refused has the grid 0; a grid of 1, document 01's, takes no division.
+fn is_multiple(grid: u8, n: u16) -> bool
+    ensures { λ r. ⌜ r ≡ multiple grid n ⌝ }
+{
+    if grid == 1 {
+        return true;
+    }
+    if grid == 0 {
+        return n == 0;
+    }
+    n % grid as u16 == 0
+}
+
+// Whether a task may begin at a column: "only where c − 1 is a multiple of g".
+pub fn may_begin(grid: u8, column: u16) -> bool
+    ensures { λ r. ⌜ r ≡ mayBegin grid column ⌝ }
+{
+    if column == 0 {
+        return true;
+    }
+    is_multiple(grid, column - 1)
+}
+
+// "W 1 to 256; H 1 to 1,024"; "a grid g from 1 to 16", W a multiple of it.
 pub fn device_fits(on: Device) -> bool
     ensures { λ r. ⌜ r ≡ deviceFits on ⌝ }
 {
-    ((1 <= on.columns) & (on.columns <= MOST_COLUMNS)) & ((1 <= on.rows) & (on.rows <= MOST_ROWS))
+    let stepped = is_multiple(on.grid, on.columns);
+    ((1 <= on.columns) & (on.columns <= MOST_COLUMNS))
+        & ((1 <= on.rows) & (on.rows <= MOST_ROWS))
+        & ((1 <= on.grid) & (on.grid <= MOST_GRID))
+        & stepped
 }
 
-// "Width 1 to W; height 1 to H".
+// "Width 1 to W; height 1 to H"; the width a multiple of the grid.
 pub fn size_fits(on: Device, w: u16, h: u16) -> bool
     ensures { λ r. ⌜ r ≡ sizeFits on w h ⌝ }
 {
-    ((1 <= w) & (w <= on.columns)) & ((1 <= h) & (h <= on.rows))
+    let stepped = is_multiple(on.grid, w);
+    ((1 <= w) & (w <= on.columns)) & ((1 <= h) & (h <= on.rows)) & stepped
 }
 
 // "execution e 1 to 1,000,000; deadline d .. 0 to 2,000,000,000".

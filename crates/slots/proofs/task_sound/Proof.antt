@@ -11,6 +11,9 @@ size-fits-requires c κs = search needs
 time-fits-requires : tie.Need-time-fits-requires
 time-fits-requires c κs = search needs
 
+may-begin-requires : tie.Need-may-begin-requires
+may-begin-requires c κs = search needs
+
 in-phase-requires : tie.Need-in-phase-requires
 in-phase-requires c κs = search needs
 
@@ -54,8 +57,8 @@ returns : tie.Need-returns
 unfolding taskSound
 returns c =
     let i = c .before .before .before .before .before .before .before .before .before .before .before in
-    let a = i .before .before .before .args in
-    cc (add-one (a .on .columns), i .in-phase .ensures, i .before .time-fits .ensures, i .before .before .size-fits .ensures)
+    let a = i .before .before .before .before .args in
+    cc (add-one (a .on .columns), i .in-phase .ensures, i .before .may-begin .ensures, i .before .before .time-fits .ensures, i .before .before .before .size-fits .ensures)
 
 pub task-sound-spec : {M : Type 1} → statement M
 task-sound-spec =
@@ -63,6 +66,7 @@ task-sound-spec =
     (tie.spec
     size-fits-requires
     time-fits-requires
+    may-begin-requires
     in-phase-requires
     cast-result
     cast-result-2
