@@ -16,11 +16,11 @@ use Rattle.tasks.specs.declared.Submission.{Submission}
 use Rattle.tasks.specs.Tasks.{finish, meets, covers, holds, phaseAt, waitingPhase, stamped, booked}
 use Rattle.columns.specs.Columns.{columns, runs, bestFit}
 use Rattle.planners.specs.Openings.{Place, ways, openings, full}
-use Rattle.planners.specs.Planners.{free, release, leftEdge, visited, clearOfWaiting, candidates, releasedEdges, reference, horizon, stuffing}
+use Rattle.planners.specs.Planners.{free, release, onGrid, leftEdge, visited, clearOfWaiting, candidates, releasedEdges, reference, horizon, stuffing}
 use Rattle.live.specs.Live.{bare}
 use Rattle.planners.specs.Lent.{asked}
 
-module _ (W now : ℕ) (ts : List Task) (a : Submission) where
+module _ (g W now : ℕ) (ts : List Task) (a : Submission) where
   abbrev us : List Task
   us = map bare ts
 
@@ -37,45 +37,45 @@ module _ (W now : ℕ) (ts : List Task) (a : Submission) where
   clear-bare i =
       fun-ext (λ p. unfold clearOfWaiting phaseAt meets in ap not (some-map (λ u. waitingPhase (phaseAt i u) && meets (booked now a (p .start) (p .place)) u) bare ts))
 
-  candidates-bare : candidates W now us a ≡ candidates W now ts a
+  candidates-bare : candidates g W now us a ≡ candidates g W now ts a
   candidates-bare =
-      fun-ext (λ i. unfold candidates in ap₂ (λ p f. keep p (map (leftEdge i) (bestFit (a .w) (runs f (columns W))))) (clear-bare i) (free-bare i))
+      fun-ext (λ i. unfold candidates in ap₂ (λ p f. keep p (map (leftEdge i) (bestFit (a .w) (onGrid g (runs f (columns W)))))) (clear-bare i) (free-bare i))
 
-  released-bare : releasedEdges W now us a ≡ releasedEdges W now ts a
-  released-bare = fun-ext (λ i. unfold releasedEdges in ap (λ f. map (leftEdge i) (bestFit (a .w) (runs (λ c. leb (f c) i) (columns W)))) release-bare)
+  released-bare : releasedEdges g W now us a ≡ releasedEdges g W now ts a
+  released-bare = fun-ext (λ i. unfold releasedEdges in ap (λ f. map (leftEdge i) (bestFit (a .w) (onGrid g (runs (λ c. leb (f c) i) (columns W))))) release-bare)
 
-  pub stuffing-bare : stuffing W now us a ≡ stuffing W now ts a
+  pub stuffing-bare : stuffing g W now us a ≡ stuffing g W now ts a
   unfolding stuffing visited
   stuffing-bare = ap₂ (λ f xs. firstOf (λ i. head? (f i)) (visited W now ts a xs)) candidates-bare finish-bare
 
-  pub reference-bare : reference W now us a ≡ reference W now ts a
+  pub reference-bare : reference g W now us a ≡ reference g W now ts a
   unfolding reference
   reference-bare = ap (λ f. head? (f now)) candidates-bare
 
-  pub horizon-bare : horizon W now us a ≡ horizon W now ts a
+  pub horizon-bare : horizon g W now us a ≡ horizon g W now ts a
   unfolding horizon visited
-  horizon-bare = ap₂ (λ f g. firstOf (λ i. head? (f i)) (visited W now ts a (map g (columns W)))) released-bare release-bare
+  horizon-bare = ap₂ (λ f r. firstOf (λ i. head? (f i)) (visited W now ts a (map r (columns W)))) released-bare release-bare
 
-  pub openings-bare : openings W now us a ≡ openings W now ts a
+  pub openings-bare : openings g W now us a ≡ openings g W now ts a
   unfolding openingsIn pairsIn ways
   openings-bare =
-      ap (λ p. keep p (pairsIn (ways W now ts a)))
+      ap (λ p. keep p (pairsIn (ways g W now ts a)))
       (fun-ext (λ q. unfold isOpen meets in ap not (some-map (meets (booked now a (q .start) (q .place))) bare ts)))
 
-  pub after-bare : (p : Place) → openingsAfter (ways W now us a) p ≡ openingsAfter (ways W now ts a) p
+  pub after-bare : (p : Place) → openingsAfter (ways g W now us a) p ≡ openingsAfter (ways g W now ts a) p
   unfolding openingsAfter after ways
-  after-bare p = ap (keep (after (ways W now ts a) p)) openings-bare
+  after-bare p = ap (keep (after (ways g W now ts a) p)) openings-bare
 
-  pub full-bare : full W now us a ≡ full W now ts a
+  pub full-bare : full g W now us a ≡ full g W now ts a
   unfolding full
   full-bare = ap head? openings-bare
 
 -- REFERENCE is Stuffing with no time after now: its deadline is now + e
-pub reference-is : (W now : ℕ) (ts : List Task) (w e d : ℕ) → reference W now ts (asked w e d) ≡ stuffing W now ts (asked w e (now + e))
+pub reference-is : (g W now : ℕ) (ts : List Task) (w e d : ℕ) → reference g W now ts (asked w e d) ≡ stuffing g W now ts (asked w e (now + e))
 unfolding reference stuffing visited firstOf orElse candidates clearOfWaiting booked stamped meets
-reference-is W now ts w e d =
-    last (head? (candidates W now ts (asked w e (now + e)) now))
-    ∙ ap (λ l. firstOf (λ i. head? (candidates W now ts (asked w e (now + e)) i)) (now ∷ l)) (sym none-later)
+reference-is g W now ts w e d =
+    last (head? (candidates g W now ts (asked w e (now + e)) now))
+    ∙ ap (λ l. firstOf (λ i. head? (candidates g W now ts (asked w e (now + e)) i)) (now ∷ l)) (sym none-later)
   where
     last : (o : Option Place) → o ≡ orElse o none
     last none = refl

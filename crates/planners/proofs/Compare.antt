@@ -14,18 +14,18 @@ use Rattle.planners.proofs.Openings.{Before, earlier, lower, full-takes
 use Rattle.planners.proofs.Planners.{planned-opens}
 use Rattle.planners.proofs.Walk.{visits-start, visits-hit}
 
-module _ (W now : ℕ) (ts : List Task) (a : Submission) where
+module _ (g W now : ℕ) (ts : List Task) (a : Submission) where
   -- WHAT REFERENCE TAKES, STUFFING TAKES AT THE SAME PLACE
-  pub reference-stuffing : {p : Place} → reference W now ts a ≡ some p → stuffing W now ts a ≡ some p
+  pub reference-stuffing : {p : Place} → reference g W now ts a ≡ some p → stuffing g W now ts a ≡ some p
   unfolding reference stuffing
-  reference-stuffing e = visits-hit W now ts a (candidates W now ts a) (map finish ts) (visits-start W now ts a (candidates W now ts a) (map finish ts)) e
+  reference-stuffing e = visits-hit W now ts a (candidates g W now ts a) (map finish ts) (visits-start W now ts a (candidates g W now ts a) (map finish ts)) e
 
   -- WHATEVER A PLANNER TAKES, FULL TAKES WITH NO LATER START
-  pub full-no-later : now + a .e ≤ a .d → (n : ℕ) {p : Place} → planned W now ts a n ≡ some p → (q : Place) × (full W now ts a ≡ some q) × (q .start ≤ p .start)
+  pub full-no-later : now + a .e ≤ a .d → (n : ℕ) {p : Place} → planned g W now ts a n ≡ some p → (q : Place) × (full g W now ts a ≡ some q) × (q .start ≤ p .start)
   full-no-later h n {p} e =
-      let o = planned-opens W now ts a h n e in
-      let f = full-takes-one W now ts a p o in
-      (f .0, f .1, le (f .0) (full-first W now ts a (f .0) p (f .1) o))
+      let o = planned-opens g W now ts a h n e in
+      let f = full-takes-one g W now ts a p o in
+      (f .0, f .1, le (f .0) (full-first g W now ts a (f .0) p (f .1) o))
     where
       le : (q : Place) → (p ≡ q) ⊎ Before q p → q .start ≤ p .start
       le q (inl z) = let k : p .start ≡ q .start = ap (λ x. x .start) z in omega arith

@@ -5,3 +5,4 @@ pub mod Walk
 pub mod Bare
 pub mod Compare
 pub mod Orderless
+pub mod Grid

@@ -1,4 +1,4 @@
--- Demand 3 about the definitions: the openings are exactly document 01's pairs, strictly ordered, and Full takes the first. Assumes nothing.
+-- Demand 3 about the definitions: the openings are exactly the pairs of documents 01 and 02, strictly ordered, and Full takes the first. Assumes nothing.
 use Prim.Native.Nat.{ℕ, suc, _+_, _-_, _≤_, _<_, max, min}
 use mathlib.Core.Path.{_≡_, refl, _∙_}
 use mathlib.Core.Logic.{_⊎_, inl, inr}
@@ -7,26 +7,29 @@ use mathlib.Core.List.{List, _∷_, List·Memᴰ·head as here, List·Memᴰ·ca
 use native.Mathlib.Omega.{arith}
 use lib.Dec.{T, ltb, ltb→lt, lt→ltb, not-T, T-not}
 use lib.ListN.{length, take, drop}
-use Rattle.lists.specs.Lists.{_∈_, lastOr}
+use Rattle.lists.specs.Lists.{_∈_, range, lastOr}
 use Rattle.lists.proofs.Bools.{and-l, and-r, and-i}
-use Rattle.lists.proofs.Members.{none-pass, pass-none, range-in, in-range, head-none, head-some}
-use Rattle.lists.proofs.Order.{Sorted, Sorted·head, sorted-range, sorted-by}
+use Rattle.lists.proofs.Members.{keep-in, in-keep, none-pass, pass-none, range-in, in-range, head-none, head-some}
+use Rattle.lists.proofs.Order.{Sorted, Sorted·head, sorted-keep, sorted-range, sorted-by}
 use Rattle.ways.specs.Ways.{pair, isOpen, openingsAfter, askedOn}
 use Rattle.ways.proofs.Laws.{Lawful, Open, After, sooner, beside, openings-in, in-openings, openings-sorted, openings-unique, rest-in, rest-out, rest-sorted, after-part, asked-all, all}
 use Rattle.tasks.specs.declared.Task.{Task}
 use Rattle.tasks.specs.declared.Submission.{Submission}
+use Rattle.tasks.specs.Numbers.{mayBegin}
 use Rattle.tasks.specs.Tasks.{from, finish, past, overlap, meets, stamped, booked}
 use Rattle.tasks.proofs.Laws.{Common, Share, meets-share, share-meets}
 use Rattle.planners.specs.Openings.{Place, ways, openings, full}
 
--- AN OPENING, in the words of document 01
-pub record Opening (W now : ℕ) (ts : List Task) (a : Submission) (p : Place) : Type 0 where
+-- AN OPENING, in the words of documents 01 and 02
+pub record Opening (g W now : ℕ) (ts : List Task) (a : Submission) (p : Place) : Type 0 where
   -- now ≤ s ≤ d − e
   pub from-now : now ≤ p .start
   pub in-time : p .start + a .e ≤ a .d
   -- columns count from 1, and c + w − 1 ≤ W
   pub from-one : 1 ≤ p .place
   pub on-device : p .place + a .w ≤ suc W
+  -- "a task may begin only where c − 1 is a multiple of g" (Q-3)
+  pub on-grid : T (mayBegin g (p .place))
   -- no column shared with a live task at any tick from s up to s + e
   pub apart : (u : Task) → u ∈ ts → Common (p .place) (p .place + a .w) (u .column) (past u) → Common (p .start) (p .start + a .e) (from u) (finish u) → ⊥
 
@@ -41,9 +44,9 @@ later-meets t v m b g x p q =
     let k = ltb→lt (max t b) (min (t + m) g) x in
     lt→ltb (max v b) (min (v + m) g) (omega arith)
 
-module _ (W now : ℕ) (ts : List Task) (a : Submission) where
+module _ (g W now : ℕ) (ts : List Task) (a : Submission) where
   -- columns are places with an order, column 0 before all of them, and a task leaves with its finish
-  pub lawful : Lawful (ways W now ts a) 0
+  pub lawful : Lawful (ways g W now ts a) 0
   unfolding ways meets booked stamped
   lawful = record {
     leaves = λ s c u. finish u;
@@ -51,45 +54,47 @@ module _ (W now : ℕ) (ts : List Task) (a : Submission) where
         let x = overlap c (c + a .w) (u .column) (past u) in
         let y = overlap s (s + a .e) (from u) (finish u) in
         and-i x (overlap v (v + a .e) (from u) (finish u)) (and-l x y m) (later-meets s v (a .e) (from u) (finish u) (and-r x y m) l h);
-    sorted = sorted-by _<_ (λ p q. T (ltb p q)) (λ x y h. lt→ltb x y h) (sorted-range 1 (suc W - a .w));
+    sorted = sorted-by _<_ (λ p q. T (ltb p q)) (λ x y h. lt→ltb x y h) (sorted-keep _<_ (mayBegin g) (sorted-range 1 (suc W - a .w)));
     asym = λ p q h k. omega (arith, ltb→lt p q h, ltb→lt q p k);
     trans = λ p q r h k. lt→ltb p r (omega (arith, ltb→lt p q h, ltb→lt q r k));
-    first = λ c m. lt→ltb 0 c (range-in 1 (suc W - a .w) m .low);
+    first = λ c m. lt→ltb 0 c (range-in 1 (suc W - a .w) (keep-in (mayBegin g) (range 1 (suc W - a .w)) m .0) .low);
   }
 
   pub leaves-finish : (s c : ℕ) (u : Task) → lawful .leaves s c u ≡ finish u
   unfolding lawful
   leaves-finish s c u = refl
 
-  after-before : (p q : Place) → After (ways W now ts a) p q → Before p q
+  after-before : (p q : Place) → After (ways g W now ts a) p q → Before p q
   unfolding ways
   after-before p q (sooner h) = earlier h
   after-before p q (beside e h) = lower e (ltb→lt (p .place) (q .place) h)
 
-  before-after : (p q : Place) → Before p q → After (ways W now ts a) p q
+  before-after : (p q : Place) → Before p q → After (ways g W now ts a) p q
   unfolding ways
   before-after p q (earlier h) = sooner h
   before-after p q (lower e h) = beside e (lt→ltb (p .place) (q .place) h)
 
-  pub open-opening : (p : Place) → Open (ways W now ts a) p → Opening W now ts a p
+  pub open-opening : (p : Place) → Open (ways g W now ts a) p → Opening g W now ts a p
   unfolding ways isOpen booked stamped
   open-opening p o =
-      let z = range-in 1 (suc W - a .w) (o .on-board) in
+      let k = keep-in (mayBegin g) (range 1 (suc W - a .w)) (o .on-board) in
+      let z = range-in 1 (suc W - a .w) (k .0) in
       record {
         from-now = o .from-now;
         in-time = omega (arith, o .in-time);
         from-one = z .low;
         on-device = omega arith;
+        on-grid = k .1;
         apart = λ u i x y. T-not (meets (booked now a (p .start) (p .place)) u) (none-pass (meets (booked now a (p .start) (p .place))) ts (o .clear) i)
             (share-meets (booked now a (p .start) (p .place)) u (record { column = x; tick = y }));
       }
 
-  pub opening-open : (p : Place) → Opening W now ts a p → Open (ways W now ts a) p
+  pub opening-open : (p : Place) → Opening g W now ts a p → Open (ways g W now ts a) p
   unfolding ways isOpen booked stamped
   opening-open p o = record {
     from-now = o .from-now;
     in-time = omega (arith, o .in-time);
-    on-board = in-range 1 (suc W - a .w) (p .place) (o .from-one) (omega (arith, o .on-device));
+    on-board = in-keep (mayBegin g) (in-range 1 (suc W - a .w) (p .place) (o .from-one) (omega (arith, o .on-device))) (o .on-grid);
     clear = pass-none (meets (booked now a (p .start) (p .place))) ts
         (λ u i. not-T (meets (booked now a (p .start) (p .place)) u) (λ m. clash u i (meets-share (booked now a (p .start) (p .place)) u m)));
   }
@@ -97,69 +102,69 @@ module _ (W now : ℕ) (ts : List Task) (a : Submission) where
       clash : (u : Task) → u ∈ ts → Share (booked now a (p .start) (p .place)) u → ⊥
       clash u i s = o .apart u i (s .column) (s .tick)
 
-  -- THE OPENINGS ARE EXACTLY THE PAIRS OF DOCUMENT 01
-  pub listed-opens : {p : Place} → p ∈ openings W now ts a → Opening W now ts a p
-  listed-opens {p} m = open-opening p (openings-in (ways W now ts a) m)
+  -- THE OPENINGS ARE EXACTLY THE PAIRS OF DOCUMENTS 01 AND 02
+  pub listed-opens : {p : Place} → p ∈ openings g W now ts a → Opening g W now ts a p
+  listed-opens {p} m = open-opening p (openings-in (ways g W now ts a) m)
 
-  pub opens-listed : (p : Place) → Opening W now ts a p → p ∈ openings W now ts a
-  opens-listed p o = in-openings (ways W now ts a) p (opening-open p o)
+  pub opens-listed : (p : Place) → Opening g W now ts a p → p ∈ openings g W now ts a
+  opens-listed p o = in-openings (ways g W now ts a) p (opening-open p o)
 
   -- STRICTLY ORDERED, so each once
-  pub openings-ordered : Sorted Before (openings W now ts a)
-  openings-ordered = sorted-by (After (ways W now ts a)) Before after-before (openings-sorted (ways W now ts a) 0 lawful)
+  pub openings-ordered : Sorted Before (openings g W now ts a)
+  openings-ordered = sorted-by (After (ways g W now ts a)) Before after-before (openings-sorted (ways g W now ts a) 0 lawful)
 
   -- AND THE ONLY SUCH LIST
-  pub openings-only : (ps : List Place) → Sorted Before ps → ((p : Place) → p ∈ ps → Opening W now ts a p)
-      → ((p : Place) → Opening W now ts a p → p ∈ ps) → ps ≡ openings W now ts a
-  openings-only ps s f g =
-      openings-unique (ways W now ts a) 0 lawful ps (sorted-by Before (After (ways W now ts a)) before-after s)
-      (λ q m. opening-open q (f q m)) (λ q o. g q (open-opening q o))
+  pub openings-only : (ps : List Place) → Sorted Before ps → ((p : Place) → p ∈ ps → Opening g W now ts a p)
+      → ((p : Place) → Opening g W now ts a p → p ∈ ps) → ps ≡ openings g W now ts a
+  openings-only ps s f h =
+      openings-unique (ways g W now ts a) 0 lawful ps (sorted-by Before (After (ways g W now ts a)) before-after s)
+      (λ q m. opening-open q (f q m)) (λ q o. h q (open-opening q o))
 
   -- THE OPENINGS AFTER A PAIR are those that come strictly after it, in order
-  pub after-listed : (q p : Place) → p ∈ openingsAfter (ways W now ts a) q → Opening W now ts a p × Before q p
-  after-listed q p m = let k = rest-out (ways W now ts a) 0 lawful q p m in (open-opening p (k .0), after-before q p (k .1))
+  pub after-listed : (q p : Place) → p ∈ openingsAfter (ways g W now ts a) q → Opening g W now ts a p × Before q p
+  after-listed q p m = let k = rest-out (ways g W now ts a) 0 lawful q p m in (open-opening p (k .0), after-before q p (k .1))
 
-  pub listed-after : (q p : Place) → Opening W now ts a p → Before q p → p ∈ openingsAfter (ways W now ts a) q
-  listed-after q p o b = rest-in (ways W now ts a) 0 lawful q p (opening-open p o) (before-after q p b)
+  pub listed-after : (q p : Place) → Opening g W now ts a p → Before q p → p ∈ openingsAfter (ways g W now ts a) q
+  listed-after q p o b = rest-in (ways g W now ts a) 0 lawful q p (opening-open p o) (before-after q p b)
 
-  pub after-ordered : (q : Place) → Sorted Before (openingsAfter (ways W now ts a) q)
-  after-ordered q = sorted-by (After (ways W now ts a)) Before after-before (rest-sorted (ways W now ts a) 0 lawful q)
+  pub after-ordered : (q : Place) → Sorted Before (openingsAfter (ways g W now ts a) q)
+  after-ordered q = sorted-by (After (ways g W now ts a)) Before after-before (rest-sorted (ways g W now ts a) 0 lawful q)
 
   -- after the last of the first k of them: the others
-  pub after-last : (k : ℕ) (q : Place) → openingsAfter (ways W now ts a) (lastOr q (take k (openingsAfter (ways W now ts a) q))) ≡ drop k (openingsAfter (ways W now ts a) q)
-  after-last k q = after-part (ways W now ts a) 0 lawful k q (openingsAfter (ways W now ts a) q) refl
+  pub after-last : (k : ℕ) (q : Place) → openingsAfter (ways g W now ts a) (lastOr q (take k (openingsAfter (ways g W now ts a) q))) ≡ drop k (openingsAfter (ways g W now ts a) q)
+  after-last k q = after-part (ways g W now ts a) 0 lawful k q (openingsAfter (ways g W now ts a) q) refl
 
   -- after (0, 0): all
-  pub after-none : openingsAfter (ways W now ts a) (pair 0 0) ≡ openings W now ts a
-  after-none = all (ways W now ts a) 0 lawful
+  pub after-none : openingsAfter (ways g W now ts a) (pair 0 0) ≡ openings g W now ts a
+  after-none = all (ways g W now ts a) 0 lawful
 
   -- ASKING ON from (0, 0), room for k ≥ 1 a time, goes through the whole list and ends
-  pub asking-on : (n k : ℕ) → 1 ≤ k → length (openings W now ts a) ≤ n → askedOn (ways W now ts a) n k (pair 0 0) ≡ openings W now ts a
+  pub asking-on : (n k : ℕ) → 1 ≤ k → length (openings g W now ts a) ≤ n → askedOn (ways g W now ts a) n k (pair 0 0) ≡ openings g W now ts a
   asking-on n k h l =
-      let e = all (ways W now ts a) 0 lawful in
-      asked-all (ways W now ts a) 0 lawful n k (pair 0 0) h (rw e l) ∙ e
+      let e = all (ways g W now ts a) 0 lawful in
+      asked-all (ways g W now ts a) 0 lawful n k (pair 0 0) h (rw e l) ∙ e
 
   -- FULL rejects exactly when there is no opening
-  pub full-rejects : full W now ts a ≡ none → (p : Place) → Opening W now ts a p → ⊥
+  pub full-rejects : full g W now ts a ≡ none → (p : Place) → Opening g W now ts a p → ⊥
   unfolding full
-  full-rejects e p o = nowhere (rw (head-none (openings W now ts a) e) at (opens-listed p o))
+  full-rejects e p o = nowhere (rw (head-none (openings g W now ts a) e) at (opens-listed p o))
 
-  pub full-takes-one : (q : Place) → Opening W now ts a q → (p : Place) × (full W now ts a ≡ some p)
-  full-takes-one q o = go (full W now ts a) refl
+  pub full-takes-one : (q : Place) → Opening g W now ts a q → (p : Place) × (full g W now ts a ≡ some p)
+  full-takes-one q o = go (full g W now ts a) refl
     where
-      go : (r : Option Place) → full W now ts a ≡ r → (p : Place) × (full W now ts a ≡ some p)
+      go : (r : Option Place) → full g W now ts a ≡ r → (p : Place) × (full g W now ts a ≡ some p)
       go none e = absurd (full-rejects e q o)
       go (some p) e = (p, e)
 
   -- and takes the first
-  pub full-opens : (p : Place) → full W now ts a ≡ some p → Opening W now ts a p
+  pub full-opens : (p : Place) → full g W now ts a ≡ some p → Opening g W now ts a p
   unfolding full
-  full-opens p e = let r = head-some (openings W now ts a) e in listed-opens (rw (r .1) (here refl))
+  full-opens p e = let r = head-some (openings g W now ts a) e in listed-opens (rw (r .1) (here refl))
 
-  pub full-first : (p q : Place) → full W now ts a ≡ some p → Opening W now ts a q → (q ≡ p) ⊎ Before p q
+  pub full-first : (p q : Place) → full g W now ts a ≡ some p → Opening g W now ts a q → (q ≡ p) ⊎ Before p q
   unfolding full
   full-first p q e o =
-      let r = head-some (openings W now ts a) e in
+      let r = head-some (openings g W now ts a) e in
       pick (r .0) (cases (rw (r .1) at (opens-listed q o))) (rw (r .1) at openings-ordered)
     where
       pick : (ys : List Place) → (q ≡ p) ⊎ (q ∈ ys) → Sorted Before (p ∷ ys) → (q ≡ p) ⊎ Before p q

@@ -15,13 +15,14 @@ use Rattle.lists.proofs.Order.{Sorted, next, sorted-keep, rising-sorted, first-
 use Rattle.ways.specs.Ways.{isOpen}
 use Rattle.tasks.specs.declared.Task.{Task}
 use Rattle.tasks.specs.declared.Submission.{Submission}
+use Rattle.tasks.specs.Numbers.{mayBegin}
 use Rattle.tasks.specs.Tasks.{finish, meets, covers, holds, phaseAt, waitingPhase, stamped, booked}
 use Rattle.tasks.proofs.Laws.{Share, meets-share, share-meets, holds-in, covers-in, phase-waiting}
 use Rattle.columns.specs.Columns.{columns, runs, bestFit}
 use Rattle.columns.proofs.Runs.{runs-lie}
 use Rattle.columns.proofs.BestFit.{fit-in}
 use Rattle.planners.specs.Openings.{Place, ways}
-use Rattle.planners.specs.Planners.{free, release, leftEdge, visited, clearOfWaiting, candidates, releasedEdges, reference, horizon, stuffing, planned}
+use Rattle.planners.specs.Planners.{free, release, onGrid, leftEdge, visited, clearOfWaiting, candidates, releasedEdges, reference, horizon, stuffing, planned}
 use Rattle.planners.proofs.Openings.{Opening, full-opens}
 
 -- a planner that tries the candidates of each time in turn: the least time that has one, and the first there
@@ -96,53 +97,63 @@ module _ (W now : ℕ) (ts : List Task) (a : Submission) where
       step v (yes k) = v .in-time k
       step v (no k) = omega (arith, v .from-now)
 
+module _ (g W now : ℕ) (ts : List Task) (a : Submission) where
   -- STUFFING answers at the least visited time that has a candidate, with the first candidate there
-  pub stuffing-answers : {p : Place} → stuffing W now ts a ≡ some p → Answers (candidates W now ts a) (visited W now ts a (map finish ts)) p
+  pub stuffing-answers : {p : Place} → stuffing g W now ts a ≡ some p → Answers (candidates g W now ts a) (visited W now ts a (map finish ts)) p
   unfolding stuffing
-  stuffing-answers e = answers (candidates W now ts a) (visited-rising (map finish ts)) e
+  stuffing-answers e = answers (candidates g W now ts a) (visited-rising W now ts a (map finish ts)) e
 
   -- and rejects exactly when no visited time has one
-  pub stuffing-rejects : stuffing W now ts a ≡ none → (i : ℕ) → i ∈ visited W now ts a (map finish ts) → candidates W now ts a i ≡ []
+  pub stuffing-rejects : stuffing g W now ts a ≡ none → (i : ℕ) → i ∈ visited W now ts a (map finish ts) → candidates g W now ts a i ≡ []
   unfolding stuffing
-  stuffing-rejects e = nothing (candidates W now ts a) (visited W now ts a (map finish ts)) e
+  stuffing-rejects e = nothing (candidates g W now ts a) (visited W now ts a (map finish ts)) e
 
-  pub rejects-stuffing : ((i : ℕ) → i ∈ visited W now ts a (map finish ts) → candidates W now ts a i ≡ []) → stuffing W now ts a ≡ none
+  pub rejects-stuffing : ((i : ℕ) → i ∈ visited W now ts a (map finish ts) → candidates g W now ts a i ≡ []) → stuffing g W now ts a ≡ none
   unfolding stuffing
-  rejects-stuffing f = nothing-tried (candidates W now ts a) (visited W now ts a (map finish ts)) f
+  rejects-stuffing f = nothing-tried (candidates g W now ts a) (visited W now ts a (map finish ts)) f
 
   -- HORIZON answers at the least visited time that has a released run wide enough, with best fit's first
-  pub horizon-answers : {p : Place} → horizon W now ts a ≡ some p → Answers (releasedEdges W now ts a) (visited W now ts a (map (release now ts) (columns W))) p
+  pub horizon-answers : {p : Place} → horizon g W now ts a ≡ some p → Answers (releasedEdges g W now ts a) (visited W now ts a (map (release now ts) (columns W))) p
   unfolding horizon
-  horizon-answers e = answers (releasedEdges W now ts a) (visited-rising (map (release now ts) (columns W))) e
+  horizon-answers e = answers (releasedEdges g W now ts a) (visited-rising W now ts a (map (release now ts) (columns W))) e
 
-  pub horizon-rejects : horizon W now ts a ≡ none → (i : ℕ) → i ∈ visited W now ts a (map (release now ts) (columns W)) → releasedEdges W now ts a i ≡ []
+  pub horizon-rejects : horizon g W now ts a ≡ none → (i : ℕ) → i ∈ visited W now ts a (map (release now ts) (columns W)) → releasedEdges g W now ts a i ≡ []
   unfolding horizon
-  horizon-rejects e = nothing (releasedEdges W now ts a) (visited W now ts a (map (release now ts) (columns W))) e
+  horizon-rejects e = nothing (releasedEdges g W now ts a) (visited W now ts a (map (release now ts) (columns W))) e
 
-  pub rejects-horizon : ((i : ℕ) → i ∈ visited W now ts a (map (release now ts) (columns W)) → releasedEdges W now ts a i ≡ []) → horizon W now ts a ≡ none
+  pub rejects-horizon : ((i : ℕ) → i ∈ visited W now ts a (map (release now ts) (columns W)) → releasedEdges g W now ts a i ≡ []) → horizon g W now ts a ≡ none
   unfolding horizon
-  rejects-horizon f = nothing-tried (releasedEdges W now ts a) (visited W now ts a (map (release now ts) (columns W))) f
+  rejects-horizon f = nothing-tried (releasedEdges g W now ts a) (visited W now ts a (map (release now ts) (columns W))) f
 
   -- a left edge that best fit tries among the runs of columns that pass
   pub record Edge (passes : ℕ → Bool) (i : ℕ) (p : Place) : Type 0 where
     pub at : p .start ≡ i
     pub from-one : 1 ≤ p .place
     pub on-device : p .place + a .w ≤ suc W
+    pub on-grid : T (mayBegin g (p .place))
     pub each : (c : ℕ) → p .place ≤ c → c < p .place + a .w → T (passes c)
 
-  pub edge-in : (passes : ℕ → Bool) (i : ℕ) {p : Place} → p ∈ map (leftEdge i) (bestFit (a .w) (runs passes (columns W))) → Edge passes i p
+  pub edge-in : (passes : ℕ → Bool) (i : ℕ) {p : Place} → p ∈ map (leftEdge i) (bestFit (a .w) (onGrid g (runs passes (columns W)))) → Edge passes i p
+  unfolding onGrid
   edge-in passes i {p} n =
-      let m = map-in (leftEdge i) (bestFit (a .w) (runs passes (columns W))) n in
-      let f = fit-in (a .w) (runs passes (columns W)) (m .1) in
-      let r = runs-lie passes 1 W (f .0) in
+      let m = map-in (leftEdge i) (bestFit (a .w) (onGrid g (runs passes (columns W)))) n in
+      let f = fit-in (a .w) (onGrid g (runs passes (columns W))) (m .1) in
+      let k = keep-in (λ r. mayBegin g (r .left)) (runs passes (columns W)) (f .0) in
+      let r = runs-lie passes 1 W (k .0) in
       let z : p .start ≡ i = ap (λ x. x .start) (m .2) in
       let c : p .place ≡ m .0 .left = ap (λ x. x .place) (m .2) in
-      record { at = z; from-one = omega (arith, r .low); on-device = omega (arith, r .high); each = λ k l h. r .passes k (omega arith) (omega arith) }
+      record {
+        at = z;
+        from-one = omega (arith, r .low);
+        on-device = omega (arith, r .high);
+        on-grid = rw c (k .1);
+        each = λ k l h. r .passes k (omega arith) (omega arith);
+      }
 
   -- WAITING OR ALL: a left edge of a free interval meets a live task only if that one waits
   waits : (i : ℕ) (p : Place) → Edge (free ts i) i p → (u : Task) → u ∈ ts → T (meets (booked now a (p .start) (p .place)) u) → T (waitingPhase (phaseAt i u))
   unfolding free booked stamped
-  waits i p g u m h = step (decLt i (u .start))
+  waits i p o u m h = step (decLt i (u .start))
     where
       s : Share (booked now a (p .start) (p .place)) u
       s = meets-share (booked now a (p .start) (p .place)) u h
@@ -151,16 +162,16 @@ module _ (W now : ℕ) (ts : List Task) (a : Submission) where
       step (yes l) = rw (phase-waiting i u l) tt
       step (no l) =
           absurd (T-not (holds i (s .column .it) u)
-          (none-pass (holds i (s .column .it)) ts (g .each (s .column .it) (s .column .low₁) (s .column .high₁)) m)
+          (none-pass (holds i (s .column .it)) ts (o .each (s .column .it) (s .column .low₁) (s .column .high₁)) m)
           (holds-in i (s .column .it) u (record {
             started = omega arith;
-            unfinished = omega (arith, s .tick .low₁, s .tick .high₂, g .at);
+            unfinished = omega (arith, s .tick .low₁, s .tick .high₂, o .at);
             left = s .column .low₂;
             right = s .column .high₂;
           })))
 
-  pub waiting-is-all : (i : ℕ) {p : Place} → p ∈ map (leftEdge i) (bestFit (a .w) (runs (free ts i) (columns W)))
-      → clearOfWaiting W now ts a i p ≡ isOpen (ways W now ts a) p
+  pub waiting-is-all : (i : ℕ) {p : Place} → p ∈ map (leftEdge i) (bestFit (a .w) (onGrid g (runs (free ts i) (columns W))))
+      → clearOfWaiting W now ts a i p ≡ isOpen (ways g W now ts a) p
   unfolding clearOfWaiting isOpen ways
   waiting-is-all i {p} n =
       same-bool (not (some? waitsAndMeets ts)) (not (some? (meets k) ts))
@@ -175,57 +186,59 @@ module _ (W now : ℕ) (ts : List Task) (a : Submission) where
       waitsAndMeets u = waitingPhase (phaseAt i u) && meets k u
 
   -- WHATEVER A PLANNER TAKES IS AN OPENING
-  pub candidate-opens : (i : ℕ) {p : Place} → now ≤ i → i + a .e ≤ a .d → p ∈ candidates W now ts a i → Opening W now ts a p
+  pub candidate-opens : (i : ℕ) {p : Place} → now ≤ i → i + a .e ≤ a .d → p ∈ candidates g W now ts a i → Opening g W now ts a p
   unfolding candidates ways isOpen booked stamped
   candidate-opens i {p} l h n =
-      let r = keep-in (clearOfWaiting W now ts a i) (map (leftEdge i) (bestFit (a .w) (runs (free ts i) (columns W)))) n in
-      let g = edge-in (free ts i) i (r .0) in
+      let r = keep-in (clearOfWaiting W now ts a i) (map (leftEdge i) (bestFit (a .w) (onGrid g (runs (free ts i) (columns W))))) n in
+      let o = edge-in (free ts i) i (r .0) in
       let t = subst T (waiting-is-all i (r .0)) (r .1) in
       record {
-        from-now = omega (arith, g .at);
-        in-time = omega (arith, g .at);
-        from-one = g .from-one;
-        on-device = g .on-device;
+        from-now = omega (arith, o .at);
+        in-time = omega (arith, o .at);
+        from-one = o .from-one;
+        on-device = o .on-device;
+        on-grid = o .on-grid;
         apart = λ u m x y. T-not (meets (booked now a (p .start) (p .place)) u) (none-pass (meets (booked now a (p .start) (p .place))) ts t m)
             (share-meets (booked now a (p .start) (p .place)) u (record { column = x; tick = y }));
       }
 
-  pub released-opens : (i : ℕ) {p : Place} → now ≤ i → i + a .e ≤ a .d → p ∈ releasedEdges W now ts a i → Opening W now ts a p
+  pub released-opens : (i : ℕ) {p : Place} → now ≤ i → i + a .e ≤ a .d → p ∈ releasedEdges g W now ts a i → Opening g W now ts a p
   unfolding releasedEdges
   released-opens i {p} l h n =
-      let g = edge-in (λ c. leb (release now ts c) i) i n in
+      let o = edge-in (λ c. leb (release now ts c) i) i n in
       record {
-        from-now = omega (arith, g .at);
-        in-time = omega (arith, g .at);
-        from-one = g .from-one;
-        on-device = g .on-device;
+        from-now = omega (arith, o .at);
+        in-time = omega (arith, o .at);
+        from-one = o .from-one;
+        on-device = o .on-device;
+        on-grid = o .on-grid;
         apart = λ u m x y.
-            let z = leb→le (release now ts (x .it)) i (g .each (x .it) (x .low₁) (x .high₁)) in
+            let z = leb→le (release now ts (x .it)) i (o .each (x .it) (x .low₁) (x .high₁)) in
             let v = release-over now ts (x .it) m (covers-in (x .it) u (x .low₂) (x .high₂)) in
-            omega (arith, y .low₁, y .high₂, g .at);
+            omega (arith, y .low₁, y .high₂, o .at);
       }
 
   module _ (reachable : now + a .e ≤ a .d) where
-    pub reference-opens : {p : Place} → reference W now ts a ≡ some p → Opening W now ts a p
+    pub reference-opens : {p : Place} → reference g W now ts a ≡ some p → Opening g W now ts a p
     unfolding reference
-    reference-opens e = candidate-opens now (omega arith) reachable (head-in (candidates W now ts a now) e)
+    reference-opens e = candidate-opens now (omega arith) reachable (head-in (candidates g W now ts a now) e)
 
-    pub stuffing-opens : {p : Place} → stuffing W now ts a ≡ some p → Opening W now ts a p
+    pub stuffing-opens : {p : Place} → stuffing g W now ts a ≡ some p → Opening g W now ts a p
     stuffing-opens {p} e =
         let r = stuffing-answers e in
-        let v = visited-until (map finish ts) reachable (r .among) in
+        let v = visited-until W now ts a (map finish ts) reachable (r .among) in
         candidate-opens (r .at) (v .0) (v .1) (rw (r .first) (here refl))
 
-    pub horizon-opens : {p : Place} → horizon W now ts a ≡ some p → Opening W now ts a p
+    pub horizon-opens : {p : Place} → horizon g W now ts a ≡ some p → Opening g W now ts a p
     horizon-opens {p} e =
         let r = horizon-answers e in
-        let v = visited-until (map (release now ts) (columns W)) reachable (r .among) in
+        let v = visited-until W now ts a (map (release now ts) (columns W)) reachable (r .among) in
         released-opens (r .at) (v .0) (v .1) (rw (r .first) (here refl))
 
-    pub planned-opens : (n : ℕ) {p : Place} → planned W now ts a n ≡ some p → Opening W now ts a p
+    pub planned-opens : (n : ℕ) {p : Place} → planned g W now ts a n ≡ some p → Opening g W now ts a p
     unfolding planned
     planned-opens zero e = reference-opens e
     planned-opens (suc zero) e = horizon-opens e
     planned-opens (suc (suc zero)) e = stuffing-opens e
-    planned-opens (suc (suc (suc zero))) {p} e = full-opens W now ts a p e
+    planned-opens (suc (suc (suc zero))) {p} e = full-opens g W now ts a p e
     planned-opens (suc (suc (suc (suc n)))) e = absurd (let z : _≡_ {A = ℕ} 0 1 = cc in omega arith)

@@ -1,8 +1,13 @@
 -- What a planner is asked, and the place as the code answers it: code-level definitions; no promise of a public call cites them. Assumes nothing.
 use Prim.Native.Nat.{ℕ, _+_, _≤_}
+use mathlib.Core.List.{List}
 use mathlib.Core.Option.{Option, none, some}
+use lib.Dec.{T}
+use Rattle.lists.specs.Lists.{_∈_}
 use Rattle.tasks.specs.declared.Submission.{Submission}
-use Rattle.tasks.specs.Numbers.{lastInstant}
+use Rattle.tasks.specs.declared.Task.{Task}
+use Rattle.tasks.specs.Numbers.{lastInstant, multiple, mayBegin}
+use Rattle.tasks.specs.Tasks.{past}
 use Rattle.planners.specs.declared.Found.{Found}
 use Rattle.planners.specs.declared.Found.the-variants.{Nothing, At}
 use Rattle.planners.specs.declared.Window.{Window}
@@ -28,3 +33,11 @@ asked w e d = record { id = 0; e = e; d = d; w = w; h = 0 }
 -- the submission of a window
 abbrev pub wanted : Window → Submission
 wanted q = asked (q .w) (q .e) (q .d)
+
+-- columns come in steps of g: those of the device, the w asked for, and of every live task both ends
+pub record Stepped (g W w : ℕ) (ts : List Task) : Type 0 where
+  pub step : 1 ≤ g
+  pub device : T (multiple g W)
+  pub width : T (multiple g w)
+  pub begins : (u : Task) → u ∈ ts → T (mayBegin g (u .column))
+  pub ends : (u : Task) → u ∈ ts → T (mayBegin g (past u))

@@ -1,9 +1,9 @@
 -- The grid: multiples and their sums, the step between two of them; with g = 1 every number is one, with g = 0 only 0. Assumes nothing.
-use Prim.Native.Nat.{ℕ, _+_, _-_, _≤_, _<_, _%_, _∣_}
+use Prim.Native.Nat.{ℕ, suc, _+_, _-_, _*_, _≤_, _<_, _%_, _∣_}
 use mathlib.Core.Path.{_≡_, sym, ap, subst}
 use mathlib.Core.Bool.{true}
 use native.Mathlib.Omega.{arith}
-use native.Mathlib.Nat.{zero-mod, mod-zero, mod-one, dvd-add, dvd-sub, le-of-dvd, mod-eq-zero-of-dvd, dvd-of-mod-eq-zero}
+use native.Mathlib.Nat.{zero-mod, mod-zero, mod-one, dvd-mul-right, dvd-add, dvd-sub, le-of-dvd, mod-eq-zero-of-dvd, dvd-of-mod-eq-zero}
 use lib.Dec.{T, eqb, eqb→eq}
 use borrow.Author.Tests.{eq-eqb}
 use Rattle.tasks.specs.Numbers.{multiple, mayBegin}
@@ -20,6 +20,9 @@ pub multiple-zero : (g : ℕ) → T (multiple g 0)
 unfolding multiple
 multiple-zero g = subst T (sym (eq-eqb (0 % g) 0 (zero-mod g))) tt
 
+pub multiple-product : (g k : ℕ) → T (multiple g (g * k))
+multiple-product g k = divides-multiple g (g * k) (dvd-mul-right g k)
+
 pub multiple-sum : (g a b : ℕ) → T (multiple g a) → T (multiple g b) → T (multiple g (a + b))
 multiple-sum g a b x y = divides-multiple g (a + b) (dvd-add _ (multiple-divides g a x) (multiple-divides g b y))
 
@@ -31,6 +34,11 @@ pub multiple-gap : (g a b : ℕ) → T (multiple g a) → T (multiple g b) → a
 multiple-gap g a b x y h =
     let k = le-of-dvd (let z : 0 < b - a = omega arith in z) (multiple-divides g (b - a) (multiple-rest g b a y x)) in
     omega arith
+
+-- a task may begin next to a multiple
+pub begins-after : (g c : ℕ) → T (multiple g c) → T (mayBegin g (suc c))
+unfolding mayBegin
+begins-after g c t = subst (λ x. T (multiple g x)) (let z : c ≡ suc c - 1 = omega arith in z) t
 
 -- WITH g = 1 every column will do: document 01's device
 pub multiple-one : (n : ℕ) → multiple 1 n ≡ true
