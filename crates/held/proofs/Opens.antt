@@ -13,6 +13,7 @@ use Rattle.lists.proofs.Append.{some-same, some-map}
 use Rattle.lists.proofs.Members.{some-pass, pass-some, map-in, range-in}
 use Rattle.ways.specs.Ways.{pair}
 use Rattle.tasks.specs.declared.Task.{Task}
+use Rattle.tasks.specs.Numbers.{mayBegin}
 use Rattle.tasks.specs.Tasks.{from, finish, overlap, covers}
 use Rattle.tasks.proofs.Laws.{overlap-common, common-overlap, covers-in, covers-out}
 use Rattle.live.specs.Live.{fromAt, finishAt, taskAt, tasksOf, OnDevice, After, NextFinish}
@@ -30,13 +31,14 @@ module _ (W t e : ℕ) (ts : List Task) (words : List ℕ) (h : Held W t e ts wo
   past-set c p q b = h c p q ∙ is-true _ (or-r (some? (inStay t e c) ts) (ltb W c) (lt→ltb W c b))
 
   -- a place is an opening exactly if its columns are clear
-  pub clear-opens : (now w d c : ℕ) → 1 ≤ w → 1 ≤ c → now ≤ t → t + e ≤ d → Clear words w c → Opening W now ts (asked w e d) (pair t c)
+  pub clear-opens : (g now w d c : ℕ) → 1 ≤ w → T (mayBegin g c) → 1 ≤ c → now ≤ t → t + e ≤ d → Clear words w c → Opening g W now ts (asked w e d) (pair t c)
   unfolding inStay
-  clear-opens now w d c o p q r k = record {
+  clear-opens g now w d c o v p q r k = record {
     from-now = q;
     in-time = r;
     from-one = p;
     on-device = within (decLt W (c + w - 1));
+    on-grid = v;
     apart = λ u m x y.
         true≢false (sym (held-set (x .it) (omega (arith, x .low₁)) (omega (arith, x .high₁, k .fits)) u m
         (and-i (overlap t (t + e) (from u) (finish u)) (covers (x .it) u) (common-overlap t (t + e) (from u) (finish u) y) (covers-in (x .it) u (x .low₂) (x .high₂))))
@@ -47,9 +49,9 @@ module _ (W t e : ℕ) (ts : List Task) (words : List ℕ) (h : Held W t e ts wo
       within (yes b) = absurd (true≢false (sym (past-set (c + w - 1) (omega arith) (omega (arith, k .fits)) b) ∙ k .clear (c + w - 1) (omega arith) (omega arith)))
       within (no b) = omega arith
 
-  pub opens-clear : (now w d c : ℕ) → W ≤ 256 → Opening W now ts (asked w e d) (pair t c) → Clear words w c
+  pub opens-clear : (g now w d c : ℕ) → W ≤ 256 → Opening g W now ts (asked w e d) (pair t c) → Clear words w c
   unfolding inStay
-  opens-clear now w d c b o = record {
+  opens-clear g now w d c b o = record {
     fits = omega (arith, o .on-device);
     clear = λ x p q. h x (omega (arith, o .from-one)) (omega (arith, o .on-device)) ∙ off x p q (some? (inStay t e x) ts || ltb W x) refl;
   }

@@ -17,13 +17,14 @@ use Rattle.columns.proofs.BestFit.{Better, best-head, best-none, key-less, key-
 use Rattle.planners.specs.declared.Found.the-variants.{Nothing, At}
 use Rattle.planners.specs.Planners.{release, leftEdge, releasedEdges, horizon}
 use Rattle.planners.specs.Lent.{foundOf}
+use Rattle.planners.proofs.Grid.{released-one}
 use Rattle.planners.proofs.Walk.{Visits, visits-hit, visits-none, visits-on}
 use Rattle.horizon.specs.declared.Seen.{Seen}
 use Rattle.horizon.specs.Look.{releasedBy, KeyIs, NextIs, Looked}
 
 -- the visits of Horizon
 abbrev pub Releases : (W now : ℕ) → List Task → Submission → ℕ → Type 0
-Releases W now ts a t = Visits W now ts a (releasedEdges W now ts a) (map (release now ts) (columns W)) t
+Releases W now ts a t = Visits W now ts a (releasedEdges 1 W now ts a) (map (release now ts) (columns W)) t
 
 module _ (W now : ℕ) (ts : List Task) (a : Submission) (wide : W ≤ 256) {t : ℕ} {o : Seen} (look : Looked (release now ts) W (a .w) t o) where
   -- a run of the list that is wide enough is one that the look weighed
@@ -31,11 +32,11 @@ module _ (W now : ℕ) (ts : List Task) (a : Submission) (wide : W ≤ 256) {t :
   weighed q m h = look .least q (record { longest = runs-longest (releasedBy (release now ts) t) 1 W m; wide = h })
 
   -- the least key is that of best fit's first
-  first-edge : (k : KeyIs (release now ts) W (a .w) t (o .key)) → head? (releasedEdges W now ts a t) ≡ some (pair t (k .run .left))
-  unfolding releasedEdges head?
+  first-edge : (k : KeyIs (release now ts) W (a .w) t (o .key)) → head? (releasedEdges 1 W now ts a t) ≡ some (pair t (k .run .left))
+  unfolding head?
   first-edge k =
       let b = best-head (a .w) (releasedBy (release now ts) t) 1 W (k .run) (longest-runs (releasedBy (release now ts) t) 1 W (k .run) (k .fits .longest)) (k .fits .wide) worse in
-      ap (λ l. head? (map (leftEdge t) l)) (b .1)
+      ap head? (released-one W now ts a t) ∙ ap (λ l. head? (map (leftEdge t) l)) (b .1)
     where
       worse : (q : Run) → q ∈ runs (releasedBy (release now ts) t) (columns W) → a .w ≤ q .size → Better q (k .run) → ⊥
       worse q m h b =
@@ -43,10 +44,9 @@ module _ (W now : ℕ) (ts : List Task) (a : Submission) (wide : W ≤ 256) {t :
           omega (arith, k .same, weighed q m h, key-less wide (g .lies) (k .fits .longest .lies) b)
 
   -- no key: no run is wide enough
-  no-edge : never ≤ o .key → releasedEdges W now ts a t ≡ []
-  unfolding releasedEdges
+  no-edge : never ≤ o .key → releasedEdges 1 W now ts a t ≡ []
   no-edge h =
-      ap (map (leftEdge t)) (best-none (a .w) (runs (releasedBy (release now ts) t) (columns W)) (λ q m l.
+      released-one W now ts a t ∙ ap (map (leftEdge t)) (best-none (a .w) (runs (releasedBy (release now ts) t) (columns W)) (λ q m l.
       let g = runs-longest (releasedBy (release now ts) t) 1 W m in
       omega (arith, weighed q m l, key-counts wide (g .lies) .1)))
 
@@ -63,20 +63,20 @@ module _ (W now : ℕ) (ts : List Task) (a : Submission) (wide : W ≤ 256) {t :
 
   module _ (v : Releases W now ts a t) where
     -- A RUN IS WIDE ENOUGH: that is the answer
-    pub release-hit : {x : ℕ} → o .key < never → x ≡ leftOf (o .key) → At x t ≡ foundOf (horizon W now ts a)
+    pub release-hit : {x : ℕ} → o .key < never → x ≡ leftOf (o .key) → At x t ≡ foundOf (horizon 1 W now ts a)
     unfolding horizon
     release-hit {x} h z = step (look .key)
       where
-        step : (o .key ≡ never) ⊎ KeyIs (release now ts) W (a .w) t (o .key) → At x t ≡ foundOf (horizon W now ts a)
+        step : (o .key ≡ never) ⊎ KeyIs (release now ts) W (a .w) t (o .key) → At x t ≡ foundOf (horizon 1 W now ts a)
         step (inl e) = absurd (omega arith)
         step (inr k) =
             let c : x ≡ k .run .left = z ∙ ap leftOf (k .same) ∙ key-left wide (k .fits .longest .lies) in
-            ap (λ y. At y t) c ∙ sym (ap foundOf (visits-hit W now ts a (releasedEdges W now ts a) (map (release now ts) (columns W)) v (first-edge k)))
+            ap (λ y. At y t) c ∙ sym (ap foundOf (visits-hit W now ts a (releasedEdges 1 W now ts a) (map (release now ts) (columns W)) v (first-edge k)))
 
     -- NONE IS LEFT: the submission is rejected
-    pub release-none : never ≤ o .key → a .d - a .e < o .next → Nothing ≡ foundOf (horizon W now ts a)
+    pub release-none : never ≤ o .key → a .d - a .e < o .next → Nothing ≡ foundOf (horizon 1 W now ts a)
     unfolding horizon
-    release-none h l = sym (ap foundOf (visits-none W now ts a (releasedEdges W now ts a) (map (release now ts) (columns W)) v (no-edge h) not-before (omega arith)))
+    release-none h l = sym (ap foundOf (visits-none W now ts a (releasedEdges 1 W now ts a) (map (release now ts) (columns W)) v (no-edge h) not-before (omega arith)))
 
     -- THE NEXT VISITED TIME
     pub release-on : never ≤ o .key → o .next ≤ a .d - a .e → a .e ≤ a .d → a .d < never → (t < o .next) × Releases W now ts a (o .next)
@@ -87,4 +87,4 @@ module _ (W now : ℕ) (ts : List Task) (a : Submission) (wide : W ≤ 256) {t :
         step (inr k) =
             let m : o .next ∈ map (release now ts) (columns W) =
             subst (λ x. x ∈ map (release now ts) (columns W)) (k .same) (in-map (release now ts) (in-range 1 W (k .column) (k .from-one) (omega (arith, k .on-device)))) in
-            (k .later, visits-on W now ts a (releasedEdges W now ts a) (map (release now ts) (columns W)) v (no-edge h) not-before m (k .later) (omega arith))
+            (k .later, visits-on W now ts a (releasedEdges 1 W now ts a) (map (release now ts) (columns W)) v (no-edge h) not-before m (k .later) (omega arith))

@@ -59,7 +59,7 @@ fn look<'a>(past: &'a [u32; 256], at: &'a [u32; 256], n: usize, w: u32, t: u32) 
 // Horizon over the live tasks that are lent.
 pub fn find(live: &Live, count: usize, q: Window) -> Found
     requires { ⌜ OnDevice (q .width) count (now live) × Falling count (now live) × Fits q ⌝ }
-    ensures { λ r. ⌜ r ≡ foundOf (horizon (q .width) (q .clock) (tasksOf count (now (live .entry))) (wanted q)) ⌝ }
+    ensures { λ r. ⌜ r ≡ foundOf (horizon 1 (q .width) (q .clock) (tasksOf count (now (live .entry))) (wanted q)) ⌝ }
 {
     let row = releases::gather(live, count, q.width, q.clock);
     let mut ends = [0u32; 256];

@@ -13,7 +13,7 @@ use planners::Window;
 // The place that the named planner finds among the live tasks. Reference is the search with no time after now.
 pub fn find<'a>(planner: u8, live: &'a Live, masks: &'a Masks, count: usize, q: Window) -> Found
     requires { ⌜ (planner ≤ lastPlanner) × LentTo planner (q .width) count (now live) (now masks) × Fits q ⌝ }
-    ensures { λ r. ⌜ r ≡ foundOf (planned (q .width) (q .clock) (tasksOf count (now (live .entry))) (wanted q) planner) ⌝ }
+    ensures { λ r. ⌜ r ≡ foundOf (planned 1 (q .width) (q .clock) (tasksOf count (now (live .entry))) (wanted q) planner) ⌝ }
 {
     if planner == 0 {
         return search::find(

@@ -4,15 +4,16 @@ use mathlib.Core.Path.{_≡_, refl, sym, ap, ap₂, _∙_, subst, fun-ext}
 use mathlib.Core.Logic.{_⊎_, inl, inr}
 use mathlib.Core.Bool.{Bool, not}
 use mathlib.Core.Option.{Option, none, some}
-use mathlib.Core.List.{List, map}
+use mathlib.Core.List.{List, [], _∷_, _++_, map, map-append}
 use native.Mathlib.Omega.{arith}
-use native.Mathlib.Nat.{mul-comm, div-mul-le-self, lt-div-mul-add}
+use native.Mathlib.Nat.{zero-add, mul-comm, div-mul-le-self, lt-div-mul-add}
 use native.Mathlib.Decide.{decLt}
 use lib.Dec.{T, leb, ltb, leb→le, le→leb, not-T, T-not}
 use Rattle.lists.specs.Lists.{_∈_, keep, some?, head?, firstOf, range}
+use Rattle.lists.proofs.Append.{range-more}
 use Rattle.lists.proofs.Bools.{not-not}
 use Rattle.lists.proofs.Members.{keep-in, in-keep, keep-all, none-pass, some-pass, map-in, in-map, highest-one, highest-from}
-use Rattle.ways.specs.Ways.{pair, Ways}
+use Rattle.ways.specs.Ways.{pair, Ways, isOpen}
 use Rattle.tasks.specs.declared.Task.{Task}
 use Rattle.tasks.specs.declared.Submission.{Submission}
 use Rattle.tasks.specs.Numbers.{multiple, mayBegin}
@@ -23,9 +24,9 @@ use Rattle.columns.specs.Columns.{columns, Run, runs, bestFit}
 use Rattle.columns.proofs.Runs.{Longest, runs-longest}
 use Rattle.planners.specs.Openings.{Place, ways, full}
 use Rattle.planners.specs.Planners.{free, release, onGrid, leftEdge, visited, clearOfWaiting, candidates, releasedEdges, reference, horizon, stuffing, planned}
-use Rattle.planners.specs.Lent.{Stepped}
+use Rattle.planners.specs.Lent.{Stepped, runAt}
 use Rattle.planners.proofs.Openings.{Opening, Before, earlier, lower, full-opens, full-first, full-rejects, full-takes-one}
-use Rattle.planners.proofs.Planners.{release-over}
+use Rattle.planners.proofs.Planners.{release-over, waiting-is-all}
 
 -- WITH g = 1 EVERY DEFINITION IS DOCUMENT 01'S: every column is a place, and every run is tried
 pub all-on-grid : (rs : List Run) → onGrid 1 rs ≡ rs
@@ -62,7 +63,13 @@ module _ (W now : ℕ) (ts : List Task) (a : Submission) where
   unfolding releasedEdges
   released-one i = ap (λ rs. map (leftEdge i) (bestFit (a .w) rs)) (all-on-grid (runs (λ c. leb (release now ts c) i) (columns W)))
 
--- such tasks lie on the grid of 1
+  -- and what is clear of waiting tasks is open
+  pub waiting-one : (i : ℕ) {p : Place} → p ∈ map (leftEdge i) (bestFit (a .w) (runs (free ts i) (columns W)))
+      → clearOfWaiting W now ts a i p ≡ isOpen (ways 1 W now ts a) p
+  waiting-one i {p} m =
+      waiting-is-all 1 W now ts a i (subst (λ rs. p ∈ map (leftEdge i) (bestFit (a .w) rs)) (sym (all-on-grid (runs (free ts i) (columns W)))) m)
+
+-- all tasks lie on the grid of 1
 pub stepped-one : (W w : ℕ) (ts : List Task) → Stepped 1 W w ts
 unfolding mayBegin
 stepped-one W w ts = record {
@@ -72,6 +79,13 @@ stepped-one W w ts = record {
   begins = λ u m. rw (begin-one (u .column)) tt;
   ends = λ u m. rw (begin-one (past u)) tt;
 }
+
+-- a run of openings, a step apart: one more at its end
+pub run-more : (t step from n : ℕ) → runAt t step from (n + 1) ≡ runAt t step from n ++ (pair t (from + n * step) ∷ [])
+run-more t step from n = ap (map at) (range-more 0 n) ∙ map-append at (range 0 n) ((0 + n) ∷ []) ∙ ap (λ x. map at (range 0 n) ++ (at x ∷ [])) (zero-add n)
+  where
+    at : ℕ → Place
+    at k = pair t (from + k * step)
 
 -- where a task has column c and not the next, c is a multiple of the grid
 pub ends-on-grid : {g W w : ℕ} {ts : List Task} → Stepped g W w ts → {u : Task} → u ∈ ts → (c : ℕ) → u .column ≤ c → c < past u → T (not (covers (suc c) u)) → T (multiple g c)

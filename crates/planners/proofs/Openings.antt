@@ -1,17 +1,19 @@
 -- Demand 3 about the definitions: the openings are exactly the pairs of documents 01 and 02, strictly ordered, and Full takes the first. Assumes nothing.
 use Prim.Native.Nat.{ℕ, suc, _+_, _-_, _≤_, _<_, max, min}
-use mathlib.Core.Path.{_≡_, refl, _∙_}
+use mathlib.Core.Path.{_≡_, refl, ap, _∙_}
 use mathlib.Core.Logic.{_⊎_, inl, inr}
+use mathlib.Core.Bool.{_&&_, _||_}
 use mathlib.Core.Option.{Option, none, some}
 use mathlib.Core.List.{List, _∷_, List·Memᴰ·head as here, List·Memᴰ·cases-cons as cases, List·Memᴰ·not-nil as nowhere}
 use native.Mathlib.Omega.{arith}
-use lib.Dec.{T, ltb, ltb→lt, lt→ltb, not-T, T-not}
+use lib.Dec.{T, ltb, eqb, ltb→lt, lt→ltb, not-T, T-not}
 use lib.ListN.{length, take, drop}
 use Rattle.lists.specs.Lists.{_∈_, range, lastOr}
+use Rattle.lists.proofs.Append.{keep-agree}
 use Rattle.lists.proofs.Bools.{and-l, and-r, and-i}
 use Rattle.lists.proofs.Members.{keep-in, in-keep, none-pass, pass-none, range-in, in-range, head-none, head-some}
 use Rattle.lists.proofs.Order.{Sorted, Sorted·head, sorted-keep, sorted-range, sorted-by}
-use Rattle.ways.specs.Ways.{pair, isOpen, openingsAfter, askedOn}
+use Rattle.ways.specs.Ways.{pair, isOpen, after, openingsAfter, askedOn}
 use Rattle.ways.proofs.Laws.{Lawful, Open, After, sooner, beside, openings-in, in-openings, openings-sorted, openings-unique, rest-in, rest-out, rest-sorted, after-part, asked-all, all}
 use Rattle.tasks.specs.declared.Task.{Task}
 use Rattle.tasks.specs.declared.Submission.{Submission}
@@ -133,6 +135,13 @@ module _ (g W now : ℕ) (ts : List Task) (a : Submission) where
   -- after the last of the first k of them: the others
   pub after-last : (k : ℕ) (q : Place) → openingsAfter (ways g W now ts a) (lastOr q (take k (openingsAfter (ways g W now ts a) q))) ≡ drop k (openingsAfter (ways g W now ts a) q)
   after-last k q = after-part (ways g W now ts a) 0 lawful k q (openingsAfter (ways g W now ts a) q) refl
+
+  -- a pair further right at the same start, no column between them where a task may begin: the same ones come after it
+  pub after-beside : (t c x : ℕ) → ((y : ℕ) → 1 ≤ y → T (mayBegin g y) → ltb c y ≡ ltb x y) → openingsAfter (ways g W now ts a) (pair t c) ≡ openingsAfter (ways g W now ts a) (pair t x)
+  unfolding openingsAfter after ways
+  after-beside t c x h =
+      keep-agree (after (ways g W now ts a) (pair t c)) (after (ways g W now ts a) (pair t x)) (openings g W now ts a)
+      (λ q m. let o = listed-opens m in ap (λ b. ltb t (q .start) || (eqb t (q .start) && b)) (h (q .place) (o .from-one) (o .on-grid)))
 
   -- after (0, 0): all
   pub after-none : openingsAfter (ways g W now ts a) (pair 0 0) ≡ openings g W now ts a

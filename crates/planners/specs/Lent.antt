@@ -1,9 +1,10 @@
 -- What a planner is asked, and the place as the code answers it: code-level definitions; no promise of a public call cites them. Assumes nothing.
-use Prim.Native.Nat.{ℕ, _+_, _≤_}
-use mathlib.Core.List.{List}
+use Prim.Native.Nat.{ℕ, _+_, _*_, _≤_, _<_}
+use mathlib.Core.List.{List, map}
 use mathlib.Core.Option.{Option, none, some}
 use lib.Dec.{T}
-use Rattle.lists.specs.Lists.{_∈_}
+use Rattle.lists.specs.Lists.{_∈_, range}
+use Rattle.ways.specs.Ways.{pair}
 use Rattle.tasks.specs.declared.Submission.{Submission}
 use Rattle.tasks.specs.declared.Task.{Task}
 use Rattle.tasks.specs.Numbers.{lastInstant, multiple, mayBegin}
@@ -41,3 +42,13 @@ pub record Stepped (g W w : ℕ) (ts : List Task) : Type 0 where
   pub width : T (multiple g w)
   pub begins : (u : Task) → u ∈ ts → T (mayBegin g (u .column))
   pub ends : (u : Task) → u ∈ ts → T (mayBegin g (past u))
+
+-- r is n rounded up to the grid
+pub record Rounded (g n r : ℕ) : Type 0 where
+  pub multiple : T (multiple g r)
+  pub low : n ≤ r
+  pub near : r < n + g
+
+-- n openings at t from a column on, a step apart
+abbrev pub runAt : ℕ → ℕ → ℕ → ℕ → List Place
+runAt t step from n = map (λ k. pair t (from + k * step)) (range 0 n)

@@ -15,12 +15,14 @@ use Rattle.lists.proofs.Members.{keep-none, in-keep, in-map, some-pass, pass-so
 use Rattle.ways.specs.Ways.{pair}
 use Rattle.tasks.specs.declared.Task.{Task}
 use Rattle.tasks.specs.Tasks.{from, finish, overlap, covers, holds}
+use Rattle.tasks.proofs.Grid.{begin-one}
 use Rattle.columns.specs.Columns.{columns, Run, runs, bestFit}
 use Rattle.columns.proofs.Runs.{runs-same}
 use Rattle.planners.specs.Planners.{free, leftEdge, clearOfWaiting, candidates}
 use Rattle.planners.specs.Lent.{asked}
+use Rattle.planners.proofs.Grid.{candidates-one, waiting-one}
 use Rattle.planners.proofs.Openings.{opening-open}
-use Rattle.planners.proofs.Planners.{waiting-is-all, candidate-opens}
+use Rattle.planners.proofs.Planners.{candidate-opens}
 use Rattle.words.specs.Words.{column}
 use Rattle.held.specs.Held.{inStay, Held}
 use Rattle.held.proofs.Opens.{clear-opens, opens-clear}
@@ -64,25 +66,24 @@ module _ (W now : ℕ) (ts : List Task) (w e d : ℕ) {t : ℕ} (small : W ≤ 2
 
   -- a left edge is clear of waiting tasks exactly if w columns from it on are clear during the stay
   edge-fits : (q : Run) → q ∈ intervals → clearOfWaiting W now ts (asked w e d) t (leftEdge t q) ≡ column fit (q .left)
-  unfolding candidates
   edge-fits q m =
       same-bool (clearOfWaiting W now ts (asked w e d) t (leftEdge t q)) (column fit (q .left))
       (λ b.
-      let o = candidate-opens W now ts (asked w e d) t from in-time (in-keep (clearOfWaiting W now ts (asked w e d) t) (in-map (leftEdge t) m) b) in
-      f .begins (q .left) (o .from-one) (opens-clear W t e ts stay h now w d (q .left) small o))
+      let o = candidate-opens 1 W now ts (asked w e d) t from in-time (subst (λ ps. leftEdge t q ∈ ps) (sym (candidates-one W now ts (asked w e d) t)) (in-keep (clearOfWaiting W now ts (asked w e d) t) (in-map (leftEdge t) m) b)) in
+      f .begins (q .left) (o .from-one) (opens-clear W t e ts stay h 1 now w d (q .left) small o))
       (λ b.
-      let o = clear-opens W t e ts stay h now w d (q .left) wide (f .from-one (q .left) b) from in-time (f .clear (q .left) b) in
-      subst T (sym (waiting-is-all W now ts (asked w e d) t (in-map (leftEdge t) m))) (opening-open W now ts (asked w e d) (pair t (q .left)) o .clear))
+      let o = clear-opens W t e ts stay h 1 now w d (q .left) wide (rw (begin-one (q .left)) tt) (f .from-one (q .left) b) from in-time (f .clear (q .left) b) in
+      subst T (sym (waiting-one W now ts (asked w e d) t (in-map (leftEdge t) m))) (opening-open 1 W now ts (asked w e d) (pair t (q .left)) o .clear))
 
   -- THE CANDIDATES
-  fitting-edges : candidates W now ts (asked w e d) t ≡ map (leftEdge t) (keep (λ q. column fit (q .left)) intervals)
-  unfolding candidates
+  fitting-edges : candidates 1 W now ts (asked w e d) t ≡ map (leftEdge t) (keep (λ q. column fit (q .left)) intervals)
   fitting-edges =
-      keep-map (clearOfWaiting W now ts (asked w e d) t) (leftEdge t) intervals
+      candidates-one W now ts (asked w e d) t
+      ∙ keep-map (clearOfWaiting W now ts (asked w e d) t) (leftEdge t) intervals
       ∙ ap (map (leftEdge t)) (keep-agree (λ q. clearOfWaiting W now ts (asked w e d) t (leftEdge t q)) (λ q. column fit (q .left)) intervals edge-fits)
 
   -- nothing fits
-  pub no-candidate : ((c : ℕ) → column fit c ≡ true → ⊥) → candidates W now ts (asked w e d) t ≡ []
+  pub no-candidate : ((c : ℕ) → column fit c ≡ true → ⊥) → candidates 1 W now ts (asked w e d) t ≡ []
   no-candidate g =
       fitting-edges ∙ ap (map (leftEdge t)) (keep-none (λ q. column fit (q .left)) intervals (λ q m. not-T (column fit (q .left)) (λ b. g (q .left) (is-true (column fit (q .left)) b))))
 
@@ -117,10 +118,10 @@ module _ (W now : ℕ) (ts : List Task) (w e d : ℕ) {t : ℕ} (small : W ≤ 2
       same-picks = subst (λ rs. Picked (column fit) w rs r) same-runs picks
 
       -- THE NARROWEST interval that fits is the first candidate
-      pub choice-one : 1 ≤ r → head? (candidates W now ts (asked w e d) t) ≡ some (pair t r)
+      pub choice-one : 1 ≤ r → head? (candidates 1 W now ts (asked w e d) t) ≡ some (pair t r)
       choice-one l =
           let z = same-picks .one l in
           ap head? fitting-edges ∙ head-map (leftEdge t) (keep (λ q. column fit (q .left)) intervals) (z .2) ∙ ap (λ c. some (pair t c)) (z .1)
 
-      pub choice-none : r ≡ 0 → candidates W now ts (asked w e d) t ≡ []
+      pub choice-none : r ≡ 0 → candidates 1 W now ts (asked w e d) t ≡ []
       choice-none z = fitting-edges ∙ ap (map (leftEdge t)) (same-picks .none z)

@@ -9,6 +9,7 @@ use Rattle.lists.specs.Lists.{head?}
 use Rattle.ways.proofs.Laws.{all}
 use Rattle.tasks.specs.declared.Task.{Task}
 use Rattle.tasks.specs.Tasks.{finish}
+use Rattle.tasks.proofs.Grid.{multiple-zero}
 use Rattle.live.specs.Live.{tasksOf, OnDevice, NextFinish}
 use Rattle.planners.specs.declared.Found.the-variants.{Nothing, At}
 use Rattle.planners.specs.declared.Found.{Found}
@@ -16,6 +17,7 @@ use Rattle.planners.specs.declared.Window.{Window}
 use Rattle.planners.specs.Openings.{Place, ways, full}
 use Rattle.planners.specs.Planners.{candidates, stuffing}
 use Rattle.planners.specs.Lent.{Fits, wanted, foundOf}
+use Rattle.planners.proofs.Grid.{stepped-one}
 use Rattle.planners.proofs.Openings.{lawful}
 use Rattle.planners.proofs.Walk.{Visits, visits-start, visits-hit, visits-none, visits-on, not-before, next-time}
 use Rattle.columns.specs.Columns.{columns, runs}
@@ -28,20 +30,20 @@ use Rattle.search.proofs.Choice.{now-fitting, no-candidate, choice-one,
 
 -- the answer
 abbrev pub Answer : Bool → Window → List Task → Found
-Answer whole q ts = foundOf (cond whole (full (q .width) (q .clock) ts (wanted q)) (stuffing (q .width) (q .clock) ts (wanted q)))
+Answer whole q ts = foundOf (cond whole (full 1 (q .width) (q .clock) ts (wanted q)) (stuffing 1 (q .width) (q .clock) ts (wanted q)))
 
 module _ (q : Window) (ts : List Task) where
   -- the openings from t on
   abbrev onward : ℕ → List Place
-  onward t = rest (q .width) (q .clock) ts (q .w) (q .e) (q .d) t 0
+  onward t = rest 1 (q .width) (q .clock) ts (q .w) (q .e) (q .d) t 0
 
   -- the candidates at t
   abbrev pub tried : ℕ → List Place
-  tried t = candidates (q .width) (q .clock) ts (wanted q) t
+  tried t = candidates 1 (q .width) (q .clock) ts (wanted q) t
 
   -- the openings from t on give Full's answer
   abbrev Left : ℕ → Type 0
-  Left t = full (q .width) (q .clock) ts (wanted q) ≡ head? (onward t)
+  Left t = full 1 (q .width) (q .clock) ts (wanted q) ≡ head? (onward t)
 
   -- t is visited by Stuffing, and no time before has a candidate
   abbrev Stuffs : ℕ → Type 0
@@ -65,12 +67,12 @@ module _ (q : Window) (ts : List Task) where
   walk-begin whole fits = record {
     from-now = omega arith;
     in-time = fits .in-time;
-    openings = λ e. ap head? (sym (all (ways (q .width) (q .clock) ts (wanted q)) 0 (lawful (q .width) (q .clock) ts (wanted q))) ∙ go (decLt 0 (q .clock)));
+    openings = λ e. ap head? (sym (all (ways 1 (q .width) (q .clock) ts (wanted q)) 0 (lawful 1 (q .width) (q .clock) ts (wanted q))) ∙ go (decLt 0 (q .clock)));
     visits = λ e. visits-start (q .width) (q .clock) ts (wanted q) tried (map finish ts);
   }
     where
       go : Dec (0 < q .clock) → onward 0 ≡ onward (q .clock)
-      go (yes p) = rest-early (q .width) (q .clock) ts (q .w) (q .e) (q .d) 0 0 p
+      go (yes p) = rest-early 1 (q .width) (q .clock) ts (q .w) (q .e) (q .d) 0 0 p
       go (no p) = ap onward (let z : 0 ≡ q .clock = omega arith in z)
 
 module _ (q : Window) (n : ℕ) (live : List ℕ) (o : OnDevice (q .width) n live) (fits : Fits q) where
@@ -85,7 +87,7 @@ module _ (q : Window) (n : ℕ) (live : List ℕ) (o : OnDevice (q .width) n liv
       unfolding head?
       walk-first {c} z l b =
           sym (ap (λ v. Answer v q ts) z ∙ ap foundOf (k .openings z
-          ∙ ap head? (rest-first (q .width) (q .clock) n live o (q .w) (q .e) (q .d) (fits .wide) (k .from-now) (k .in-time) stay h (fit-first (fits .wide) f l b) (l .low))))
+          ∙ ap head? (rest-first 1 (q .width) (q .clock) n live o (q .w) (q .e) (q .d) (stepped-one (q .width) (q .w) ts) (fits .wide) (k .from-now) (k .in-time) stay h (multiple-zero 1) (fit-first (fits .wide) f l b) (l .low))))
 
       -- none: nothing is open
       pub blocked-none : {c : ℕ} → Least (column fit) 1 257 c → 257 ≤ c → Blocked q ts whole t stay
@@ -118,7 +120,7 @@ module _ (q : Window) (n : ℕ) (live : List ℕ) (o : OnDevice (q .width) n liv
 
     module _ {stay : List ℕ} (b : Blocked q ts whole t stay) {u : ℕ} (x : NextFinish live n t u) where
       jump : whole ≡ true → Left q ts u
-      jump z = k .openings z ∙ ap head? (rest-jump (q .width) (q .clock) n live o (q .w) (q .e) (q .d) (fits .wide) (k .from-now) (k .in-time) stay (b .held) (b .no-opening z) x)
+      jump z = k .openings z ∙ ap head? (rest-jump 1 (q .width) (q .clock) n live o (q .w) (q .e) (q .d) (stepped-one (q .width) (q .w) ts) (fits .wide) (k .from-now) (k .in-time) stay (b .held) (b .no-opening z) x)
 
       -- NONE IS LEFT
       pub walk-over : q .d - q .e < u → Nothing ≡ Answer whole q ts
@@ -127,7 +129,7 @@ module _ (q : Window) (n : ℕ) (live : List ℕ) (o : OnDevice (q .width) n liv
         where
           go : (v : Bool) → whole ≡ v → Nothing ≡ Answer whole q ts
           go true z =
-              sym (ap (λ b. Answer b q ts) z ∙ ap foundOf (jump z ∙ ap head? (rest-over (q .width) (q .clock) ts (q .w) (q .e) (q .d) u 0 (omega (arith, fits .in-time)) (fits .in-time))))
+              sym (ap (λ b. Answer b q ts) z ∙ ap foundOf (jump z ∙ ap head? (rest-over 1 (q .width) (q .clock) ts (q .w) (q .e) (q .d) u 0 (omega (arith, fits .in-time)) (fits .in-time))))
           go false z =
               sym (ap (λ b. Answer b q ts) z
               ∙ ap foundOf (visits-none (q .width) (q .clock) ts (wanted q) (tried q ts) (map finish ts) (k .visits z) (b .no-edge z) (not-before o x) (omega (arith, fits .in-time))))

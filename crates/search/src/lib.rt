@@ -16,7 +16,7 @@ use planners::Window;
 // with no time after now.
 pub fn find<'a>(live: &'a Live, masks: &'a Masks, count: usize, q: Window, whole: bool) -> Found
     requires { ⌜ Lent (q .width) count (now live) (now masks) × Fits q ⌝ }
-    ensures { λ r. ⌜ r ≡ foundOf (cond whole (full (q .width) (q .clock) (tasksOf count (now (live .entry))) (wanted q)) (stuffing (q .width) (q .clock) (tasksOf count (now (live .entry))) (wanted q))) ⌝ }
+    ensures { λ r. ⌜ r ≡ foundOf (cond whole (full 1 (q .width) (q .clock) (tasksOf count (now (live .entry))) (wanted q)) (stuffing 1 (q .width) (q .clock) (tasksOf count (now (live .entry))) (wanted q))) ⌝ }
 {
     let edge = held::edge(q.width);
     let last = q.d - q.e;

@@ -25,7 +25,7 @@ use Rattle.planners.specs.Openings.{Place, ways}
 use Rattle.planners.specs.Planners.{free, leftEdge, clearOfWaiting, candidates, stuffing}
 use Rattle.live.specs.Live.{tasksOf, OnDevice, NextFinish}
 use Rattle.planners.specs.Lent.{foundOf, asked}
-use Rattle.planners.proofs.Planners.{waiting-is-all}
+use Rattle.planners.proofs.Grid.{candidates-one, waiting-one}
 use Rattle.planners.proofs.Walk.{Visits, visits-hit, visits-none, visits-on, not-before, next-time}
 use Rattle.stuffing.specs.Fit.{meetsAt, NextFit}
 
@@ -65,16 +65,15 @@ module _ (W now : ℕ) (ts : List Task) (w e d : ℕ) (small : W ≤ 256) where
 
   -- the test of the code is that of the book
   clear-is : (t : ℕ) {p : Place} → p ∈ map (leftEdge t) (best t) → clearOfWaiting W now ts a t p ≡ not (meet (p .start) (p .place))
-  clear-is t {p} m = waiting-is-all W now ts a t m ∙ (unfold isOpen ways booked stamped meets in refl)
+  clear-is t {p} m = waiting-one W now ts a t m ∙ (unfold isOpen ways booked stamped meets in refl)
 
   edge-clear : (t : ℕ) (q : Run) → q ∈ best t → clear t q ≡ not (meet t (q .left))
   edge-clear t q m = clear-is t (in-map (leftEdge t) m)
 
   -- all are tried: no candidate
-  pub tries-none : {t after r : ℕ} → Tries t after → NextFit (free ts t) W w after r → r ≡ never → candidates W now ts a t ≡ []
-  unfolding candidates
+  pub tries-none : {t after r : ℕ} → Tries t after → NextFit (free ts t) W w after r → r ≡ never → candidates 1 W now ts a t ≡ []
   tries-none {t} {after} {r} o n z =
-      keep-map (clearOfWaiting W now ts a t) (leftEdge t) (best t) ∙ ap (map (leftEdge t)) (keep-none (clear t) (best t) each)
+      candidates-one W now ts a t ∙ keep-map (clearOfWaiting W now ts a t) (leftEdge t) (best t) ∙ ap (map (leftEdge t)) (keep-none (clear t) (best t) each)
     where
       each : (q : Run) → q ∈ best t → T (not (clear t q))
       each q m =
@@ -87,9 +86,8 @@ module _ (W now : ℕ) (ts : List Task) (w e d : ℕ) (small : W ≤ 256) where
 
   -- the next is clear: it is the first candidate
   pub tries-hit : {t after r x : ℕ} → Tries t after → NextFit (free ts t) W w after r → (r ≡ never → ⊥) → x ≡ leftOf r → meet t x ≡ false
-      → head? (candidates W now ts a t) ≡ some (pair t x)
-  unfolding candidates
-  tries-hit {t} {after} {r} {x} o n f e z = go (n .one)
+      → head? (candidates 1 W now ts a t) ≡ some (pair t x)
+  tries-hit {t} {after} {r} {x} o n f e z = ap head? (candidates-one W now ts a t) ∙ go (n .one)
     where
       go : (r ≡ never) ⊎ ((q : Run) × (q ∈ runs (free ts t) (columns W)) × (w ≤ q .size) × (after < key q) × (key q ≡ r))
           → head? (keep (clearOfWaiting W now ts a t) (map (leftEdge t) (best t))) ≡ some (pair t x)
@@ -138,22 +136,22 @@ module _ (W now : ℕ) (ts : List Task) (w e d : ℕ) (small : W ≤ 256) where
 
 -- the visits of Stuffing
 abbrev pub Stuffs : (W now : ℕ) → List Task → (w e d : ℕ) → ℕ → Type 0
-Stuffs W now ts w e d t = Visits W now ts (asked w e d) (candidates W now ts (asked w e d)) (map finish ts) t
+Stuffs W now ts w e d t = Visits W now ts (asked w e d) (candidates 1 W now ts (asked w e d)) (map finish ts) t
 
 module _ (W now n : ℕ) (live : List ℕ) (o : OnDevice W n live) (w e d : ℕ) where
   abbrev ts : List Task
   ts = tasksOf n live
 
-  pub stuffs-hit : {t c : ℕ} → Stuffs W now ts w e d t → head? (candidates W now ts (asked w e d) t) ≡ some (pair t c) → At c t ≡ foundOf (stuffing W now ts (asked w e d))
+  pub stuffs-hit : {t c : ℕ} → Stuffs W now ts w e d t → head? (candidates 1 W now ts (asked w e d) t) ≡ some (pair t c) → At c t ≡ foundOf (stuffing 1 W now ts (asked w e d))
   unfolding stuffing
-  stuffs-hit v q = sym (ap foundOf (visits-hit W now ts (asked w e d) (candidates W now ts (asked w e d)) (map finish ts) v q))
+  stuffs-hit v q = sym (ap foundOf (visits-hit W now ts (asked w e d) (candidates 1 W now ts (asked w e d)) (map finish ts) v q))
 
-  pub stuffs-none : {t u : ℕ} → Stuffs W now ts w e d t → candidates W now ts (asked w e d) t ≡ [] → NextFinish live n t u → d - e < u → e ≤ d
-      → Nothing ≡ foundOf (stuffing W now ts (asked w e d))
+  pub stuffs-none : {t u : ℕ} → Stuffs W now ts w e d t → candidates 1 W now ts (asked w e d) t ≡ [] → NextFinish live n t u → d - e < u → e ≤ d
+      → Nothing ≡ foundOf (stuffing 1 W now ts (asked w e d))
   unfolding stuffing
-  stuffs-none {t} {u} v q x h g = sym (ap foundOf (visits-none W now ts (asked w e d) (candidates W now ts (asked w e d)) (map finish ts) v q (not-before o x) (omega arith)))
+  stuffs-none {t} {u} v q x h g = sym (ap foundOf (visits-none W now ts (asked w e d) (candidates 1 W now ts (asked w e d)) (map finish ts) v q (not-before o x) (omega arith)))
 
-  pub stuffs-on : {t u : ℕ} → Stuffs W now ts w e d t → candidates W now ts (asked w e d) t ≡ [] → NextFinish live n t u
+  pub stuffs-on : {t u : ℕ} → Stuffs W now ts w e d t → candidates 1 W now ts (asked w e d) t ≡ [] → NextFinish live n t u
       → u ≤ d - e → e ≤ d → d ≤ lastInstant → Stuffs W now ts w e d u
   stuffs-on {t} {u} v q x h g k =
-      visits-on W now ts (asked w e d) (candidates W now ts (asked w e d)) (map finish ts) v q (not-before o x) (next-time o x (omega arith)) (x .after) (omega arith)
+      visits-on W now ts (asked w e d) (candidates 1 W now ts (asked w e d)) (map finish ts) v q (not-before o x) (next-time o x (omega arith)) (x .after) (omega arith)

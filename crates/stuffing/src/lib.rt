@@ -129,7 +129,7 @@ fn meets_any(
 // in best-fit order.
 pub fn find(live: &Live, count: usize, q: Window) -> Found
     requires { ⌜ OnDevice (q .width) count (now live) × Falling count (now live) × Apart count (now live) × Fits q ⌝ }
-    ensures { λ r. ⌜ r ≡ foundOf (stuffing (q .width) (q .clock) (tasksOf count (now (live .entry))) (wanted q)) ⌝ }
+    ensures { λ r. ⌜ r ≡ foundOf (stuffing 1 (q .width) (q .clock) (tasksOf count (now (live .entry))) (wanted q)) ⌝ }
 {
     let last = q.d - q.e;
     let mut t = q.clock;

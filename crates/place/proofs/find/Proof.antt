@@ -28,7 +28,7 @@ find-requires c κs =
 
 returns : tie.Need-returns
 unfolding planned
-returns c = rw (c .before .before .if1 .taken) (c .find .ensures ∙ ap foundOf (sym (reference-is _ _ _ _ _ (c .before .before .before .args .q .d))))
+returns c = rw (c .before .before .if1 .taken) (c .find .ensures ∙ ap foundOf (sym (reference-is _ _ _ _ _ _ (c .before .before .before .args .q .d))))
 
 find-requires-2 : tie.Need-find-requires-2
 find-requires-2 c κs = search needs
