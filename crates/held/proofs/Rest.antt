@@ -3,7 +3,7 @@ use Prim.Native.Nat.{ℕ, zero, suc, _+_, _-_, _*_, _≤_, _<_}
 use mathlib.Core.Path.{_≡_, sym, ap, ap₂, _∙_, subst}
 use mathlib.Core.Logic.{_⊎_, inl, inr}
 use mathlib.Core.List.{List, [], _∷_, _++_, append-assoc}
-use native.Mathlib.Nat.{mul-comm, suc-mul}
+use native.Mathlib.Nat.{suc-mul}
 use native.Mathlib.Omega.{arith}
 use native.Mathlib.Decide.{decLt, ℕ-discrete as decEq}
 use lib.Dec.{T, ltb, ltb→lt, lt→ltb}
@@ -14,7 +14,7 @@ use Rattle.ways.proofs.Laws.{Open, early, over, found, next-tick, next-end}
 use Rattle.tasks.specs.declared.Task.{Task}
 use Rattle.tasks.specs.Numbers.{multiple, mayBegin}
 use Rattle.tasks.specs.Tasks.{meets, stamped, booked}
-use Rattle.tasks.proofs.Grid.{multiple-product, multiple-sum, multiple-gap}
+use Rattle.tasks.proofs.Grid.{multiple-steps, multiple-sum, multiple-gap}
 use Rattle.tasks.proofs.Laws.{meets-share}
 use Rattle.planners.specs.Openings.{Place, ways}
 use Rattle.live.specs.Live.{tasksOf, OnDevice, NextFinish}
@@ -106,8 +106,8 @@ module _ (g W now n : ℕ) (live : List ℕ) (o : OnDevice W n live) (w e d : �
       at-step : (k : ℕ) → T (mayBegin g (c + k * g))
       unfolding mayBegin
       at-step k =
-          let z : g * k + (c - 1) ≡ c + k * g - 1 = omega (arith, mul-comm g k) in
-          subst (λ v. T (multiple g v)) z (multiple-sum g (g * k) (c - 1) (multiple-product g k) (first-on-grid W t e s words h i j f m))
+          let z : k * g + (c - 1) ≡ c + k * g - 1 = omega arith in
+          subst (λ v. T (multiple g v)) z (multiple-sum g (k * g) (c - 1) (multiple-steps g k) (first-on-grid W t e s words h i j f m))
 
       on-step : (k : ℕ) → Rounded g (c + k * g) (c + suc k * g - 1)
       unfolding mayBegin

@@ -1,17 +1,19 @@
 // Where the list of openings looks next, and a run of openings written.
 ghost use mathlib.Core.Path.{_≡_};
-ghost use Prim.Native.Nat.{ℕ, _+_, _-_, _*_, _≤_, _<_, max, min};
+ghost use Prim.Native.Nat.{ℕ, _+_, _*_, _≤_, _<_, max, min};
 ghost use lib.ListN.{length};
 ghost use lib.Seq.{sets};
+ghost use Rattle.planners.specs.Lent.{Rounded, runAt};
 ghost use Rattle.planners.specs.Openings.{pairNumbers};
 ghost use Rattle.live.specs.Live.{Falling, After};
-ghost use Rattle.looking.specs.Looking.{runAt, NextTick};
+ghost use Rattle.looking.specs.Looking.{Stopped, NextTick};
 use live::Live;
 
-// The openings at t from column `from` up to, not including, `to`: start and column of each, from the word `at` on.
-pub fn put_run(buffer: &mut [u32], at: usize, t: u32, from: u32, to: u32)
-    requires { ⌜ (from ≤ to) × (at + 2 * (to - from) ≤ length (now buffer)) ⌝ }
-    ensures { λ _. ⌜ now (buffer .exit) ≡ sets (now (buffer .entry)) at (pairNumbers (runAt t from (to - from))) ⌝ }
+// The openings at t from column `from` up to, not including, `to`, a step apart: start and column of each, from the word `at` on. The
+// word after the last.
+pub fn put_run(buffer: &mut [u32], at: usize, t: u32, from: u32, to: u32, step: u32) -> usize
+    requires { ⌜ ((k : ℕ) × (to ≡ from + k * step) × (at + 2 * k ≤ length (now buffer))) × (1 ≤ step) × (to ≤ 512) ⌝ }
+    ensures { λ r. ⌜ ((k : ℕ) → to ≡ from + k * step → (r ≡ at + 2 * k) × (now (buffer .exit) ≡ sets (now (buffer .entry)) at (pairNumbers (runAt t step from k)))) ⌝ }
 {
     let mut i = at;
     let mut c = from;
@@ -19,17 +21,21 @@ pub fn put_run(buffer: &mut [u32], at: usize, t: u32, from: u32, to: u32)
         buffer[i] = t;
         buffer[i + 1] = c;
         i += 2;
-        c += 1;
+        c += step;
     }
+    i
 }
 
-// The first column that is not written: of those from `from` up to `to` as many as there is room for.
-pub fn stop(from: u32, to: u32, room: usize) -> u32
-    requires { ⌜ from ≤ to ⌝ }
-    ensures { λ r. ⌜ r ≡ from + min (to - from) room ⌝ }
+// Where to stop: of the openings from `from` up to `to`, a step apart, as many as there is room for.
+pub fn stop(from: u32, to: u32, room: usize, step: u32) -> u32
+    requires { ⌜ (1 ≤ step) × (step ≤ 256) × (from ≤ 256) × (from < to) × (to ≤ from + 256) × (1 ≤ room) ⌝ }
+    ensures { λ r. ⌜ ((k : ℕ) → to ≡ from + k * step → Stopped from to room step r) ⌝ }
 {
-    if room < (to - from) as usize {
-        return from + room as u32;
+    if room < 256 {
+        let reach = from + room as u32 * step;
+        if reach < to {
+            return reach;
+        }
     }
     to
 }
@@ -41,17 +47,20 @@ pub fn from_tick(clock: u32, s: u32) -> u32
     if s < clock { clock } else { s }
 }
 
-// The column after which to look there. No task begins past column 256.
-pub fn from_column(clock: u32, s: u32, c: u32) -> u32
-    ensures { λ r. ⌜ (s < clock → r ≡ 0) × (clock ≤ s → r ≡ min c 256) ⌝ }
+// The column after which to look there, rounded up to the grid: no task begins between. No task begins past the device's last column.
+pub fn from_column(clock: u32, s: u32, c: u32, width: u32, step: u32) -> u32
+    requires { ⌜ (width ≤ 256) × (1 ≤ step) × (step ≤ 256) ⌝ }
+    ensures { λ r. ⌜ (s < clock → r ≡ 0) × (clock ≤ s → Rounded step (min c width) r) ⌝ }
 {
     if s < clock {
         return 0;
     }
-    if c < 256 {
-        return c;
+    let last = if c < width { c } else { width };
+    let over = last % step;
+    if over == 0 {
+        return last;
     }
-    256
+    last + (step - over)
 }
 
 // Where to look when nothing more is open at t after a column; the first n tasks are those that finish after t.

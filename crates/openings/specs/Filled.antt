@@ -5,7 +5,6 @@ use lib.Dec.{ltb}
 use lib.ListN.{length, take}
 use Rattle.planners.specs.Openings.{Place}
 use Rattle.openings.specs.declared.Filled.{Filled}
-pub use Rattle.looking.specs.Looking.{runAt, NextTick}
 
 -- "returns how many, and whether a further one remains": of the openings ps, two words each
 unfoldable pub filledOf : ℕ → List Place → Filled

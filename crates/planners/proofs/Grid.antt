@@ -6,7 +6,7 @@ use mathlib.Core.Bool.{Bool, not}
 use mathlib.Core.Option.{Option, none, some}
 use mathlib.Core.List.{List, [], _∷_, _++_, map, map-append}
 use native.Mathlib.Omega.{arith}
-use native.Mathlib.Nat.{zero-add, mul-comm, div-mul-le-self, lt-div-mul-add}
+use native.Mathlib.Nat.{zero-add, div-mul-le-self, lt-div-mul-add}
 use native.Mathlib.Decide.{decLt}
 use lib.Dec.{T, leb, ltb, leb→le, le→leb, not-T, T-not}
 use Rattle.lists.specs.Lists.{_∈_, keep, some?, head?, firstOf, range}
@@ -18,7 +18,7 @@ use Rattle.tasks.specs.declared.Task.{Task}
 use Rattle.tasks.specs.declared.Submission.{Submission}
 use Rattle.tasks.specs.Numbers.{multiple, mayBegin}
 use Rattle.tasks.specs.Tasks.{finish, past, meets, covers, holds, booked}
-use Rattle.tasks.proofs.Grid.{multiple-zero, multiple-product, multiple-gap, begins-after, multiple-one, begin-one}
+use Rattle.tasks.proofs.Grid.{multiple-zero, multiple-steps, multiple-gap, begins-after, multiple-one, begin-one}
 use Rattle.tasks.proofs.Laws.{Common, holds-out, holds-in, covers-in, covers-out}
 use Rattle.columns.specs.Columns.{columns, Run, runs, bestFit}
 use Rattle.columns.proofs.Runs.{Longest, runs-longest}
@@ -199,7 +199,7 @@ module _ {g W : ℕ} {ts : List Task} (now : ℕ) (a : Submission) (o : Stepped 
       near = let z = lt-div-mul-add {a = c - 1} (let y : 0 < g = omega (arith, o .step) in y) in omega arith
 
       grid : T (multiple g ((c - 1) / g * g))
-      grid = subst (λ x. T (multiple g x)) (mul-comm g ((c - 1) / g)) (multiple-product g ((c - 1) / g))
+      grid = multiple-steps g ((c - 1) / g)
 
       here : (u : Task) → u ∈ ts → Common (under c) (under c + a .w) (u .column) (past u) → Common c (c + a .w) (u .column) (past u)
       here u m x =
