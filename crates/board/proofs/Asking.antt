@@ -16,7 +16,7 @@ use Rattle.ways.specs.Ways.{pair}
 use Rattle.tasks.specs.declared.Submission.{Submission}
 use Rattle.tasks.specs.Numbers.{within, sizeFits, timeFits, lastInstant, longest}
 use Rattle.laxity.specs.Laxity.{laxity, mostLaxity}
-use Rattle.tasks.proofs.Laws.{within-in}
+use Rattle.tasks.proofs.Laws.{within-in, size-in}
 use Rattle.planners.specs.Openings.{Place, openings, pairNumbers, full}
 use Rattle.planners.specs.Planners.{planned}
 use Rattle.planners.proofs.Openings.{Opening, Before, after-listed, listed-after, after-ordered, after-last, after-none}
@@ -45,7 +45,7 @@ read-back (p ∷ ps) ws = ap (λ qs. pair (p .start) (p .place) ∷ qs) (read-ba
 pub not-refused : (b : Board) (a : Submission) → SoundBoard b → Reachable b a → refusedOpenings b a ≡ 0
 unfolding refusedOpenings
 not-refused b a s k =
-    let sized = and-i (within 1 (b .device .columns) (a .w)) (within 1 (b .device .rows) (a .h)) (within-in 1 (b .device .columns) (a .w) (k .w)) (within-in 1 (b .device .rows) (a .h) (k .h)) in
+    let sized = size-in (b .device) (a .w) (a .h) (record { width = k .w; height = k .h; stepped = k .stepped }) in
     let timed = and-i (within 1 longest (a .e)) (leb (a .d) lastInstant) (within-in 1 longest (a .e) (k .e)) (le→leb (a .d) lastInstant (k .d)) in
     sound-passes (soundBoard b) (openingsTests (b .device) (b .now) a) (is-true (soundBoard b) (sound-in (b .device) (b .now) (b .tasks) s))
     ∙ passed-over 5 (not (sizeFits (b .device) (a .w) (a .h))) _ (ap not (is-true (sizeFits (b .device) (a .w) (a .h)) sized))
@@ -66,9 +66,9 @@ module _ (b : Board) (a : Submission) where
       given p buffer ++ cond (opened b a (p .start) (p .place) (length buffer) .more)
       (asking n (lastOr p (given p buffer)) (openedBuffer b a (p .start) (p .place) buffer)) []
 
-  -- the openings of document 01 on this board
+  -- the openings of documents 01 and 02 on this board
   abbrev pub IsOpening : Place → Type 0
-  IsOpening = Opening (b .device .columns) (b .now) (liveOf b) a
+  IsOpening = Opening (b .device .grid) (b .device .columns) (b .now) (liveOf b) a
 
   module _ (s : SoundBoard b) (k : Reachable b a) where
     none-refused : refusedOpenings b a ≡ 0
@@ -97,21 +97,21 @@ module _ (b : Board) (a : Submission) where
     -- AN OPENING IS IN THE LIST EXACTLY WHEN it starts from now on, lies within the device, overlaps no live task, meets the deadline, and comes after the pair
     pub left-opens : (p q : Place) → q ∈ left p → IsOpening q × Before p q
     unfolding remaining
-    left-opens p q m = after-listed (b .device .columns) (b .now) (liveOf b) a p q m
+    left-opens p q m = after-listed (b .device .grid) (b .device .columns) (b .now) (liveOf b) a p q m
 
     pub opens-left : (p q : Place) → IsOpening q → Before p q → q ∈ left p
     unfolding remaining
-    opens-left p q o c = listed-after (b .device .columns) (b .now) (liveOf b) a p q o c
+    opens-left p q o c = listed-after (b .device .grid) (b .device .columns) (b .now) (liveOf b) a p q o c
 
     -- EACH EXACTLY ONCE, BY START AND THEN COLUMN
     pub left-ordered : (p : Place) → Sorted Before (left p)
     unfolding remaining
-    left-ordered p = after-ordered (b .device .columns) (b .now) (liveOf b) a p
+    left-ordered p = after-ordered (b .device .grid) (b .device .columns) (b .now) (liveOf b) a p
 
     -- what comes after the last pair given is what is left
     after-given : (p : Place) (buffer : List ℕ) → left (lastOr p (given p buffer)) ≡ drop (length buffer / 2) (left p)
     unfolding remaining
-    after-given p buffer = ap (λ ps. left (lastOr p ps)) (given-first p buffer) ∙ after-last (b .device .columns) (b .now) (liveOf b) a (length buffer / 2) p
+    after-given p buffer = ap (λ ps. left (lastOr p ps)) (given-first p buffer) ∙ after-last (b .device .grid) (b .device .columns) (b .now) (liveOf b) a (length buffer / 2) p
 
     -- TWO CALLS NEVER BOTH MISS ONE: an opening after the pair is given, or comes after the last one given
     pub none-missed : (p q : Place) (buffer : List ℕ) → IsOpening q → Before p q → (q ∈ given p buffer) ⊎ Before (lastOr p (given p buffer)) q
@@ -153,18 +153,18 @@ module _ (b : Board) (a : Submission) where
         go next false e = append-nil (given p buffer) ∙ given-first p buffer ∙ take-all k′ (left p) (ltb-false k′ (length (left p)) e)
 
     -- from (0, 0) on: every opening there is
-    pub asking-from-none : (n : ℕ) (buffer : List ℕ) → 2 ≤ length buffer → length (openings (b .device .columns) (b .now) (liveOf b) a) ≤ n
-        → asking n (pair 0 0) buffer ≡ openings (b .device .columns) (b .now) (liveOf b) a
+    pub asking-from-none : (n : ℕ) (buffer : List ℕ) → 2 ≤ length buffer → length (openings (b .device .grid) (b .device .columns) (b .now) (liveOf b) a) ≤ n
+        → asking n (pair 0 0) buffer ≡ openings (b .device .grid) (b .device .columns) (b .now) (liveOf b) a
     unfolding remaining
     asking-from-none n buffer h l =
-        let e = after-none (b .device .columns) (b .now) (liveOf b) a in
+        let e = after-none (b .device .grid) (b .device .columns) (b .now) (liveOf b) a in
         asking-all n (pair 0 0) buffer h (rw e l) ∙ e
 
     -- FULL TAKES THE FIRST that the call gives, and REJECTS EXACTLY WHEN it gives none
     pub full-takes-given : (buffer : List ℕ) → 2 ≤ length buffer → refusedSubmit b 3 a ≡ 0 → submitted b 3 a ≡ taken b a (head? (given (pair 0 0) buffer))
     unfolding planned full remaining
     full-takes-given buffer h e =
-        let from-none = ap head? (sym (after-none (b .device .columns) (b .now) (liveOf b) a)) in
+        let from-none = ap head? (sym (after-none (b .device .grid) (b .device .columns) (b .now) (liveOf b) a)) in
         let same = first (left (pair 0 0)) (length buffer / 2) (omega arith) in
         accepted-answered b 3 a e ∙ ap (taken b a) (from-none ∙ same ∙ ap head? (sym (given-first (pair 0 0) buffer)))
       where

@@ -14,10 +14,10 @@ use Rattle.lists.proofs.Members.{in-keep, none-pass}
 use Rattle.tasks.specs.declared.Device.{Device}
 use Rattle.tasks.specs.declared.Task.{Task}
 use Rattle.tasks.specs.declared.Submission.{Submission}
-use Rattle.tasks.specs.Numbers.{within, device, deviceFits, sizeFits, timeFits, largestId, lastInstant, longest, lastPlanner}
+use Rattle.tasks.specs.Numbers.{within, multiple, device, deviceFits, sizeFits, timeFits, largestId, lastInstant, longest, lastPlanner}
 use Rattle.laxity.specs.Laxity.{laxity, mostLaxity}
 use Rattle.tasks.specs.Tasks.{live, stamped, freeSlot, zeros, booked}
-use Rattle.tasks.proofs.Laws.{Between, within-out}
+use Rattle.tasks.proofs.Laws.{Between, within-out, size-out}
 use Rattle.planners.specs.Openings.{Place}
 use Rattle.planners.specs.Planners.{planned}
 use Rattle.planners.proofs.Openings.{Opening}
@@ -51,6 +51,7 @@ pub record Accepted (b : Board) (n : ℕ) (a : Submission) : Type 0 where
   pub id : 1 ≤ a .id
   pub w : Between 1 (b .device .columns) (a .w)
   pub h : Between 1 (b .device .rows) (a .h)
+  pub stepped : T (multiple (b .device .grid) (a .w))
   pub e : Between 1 longest (a .e)
   pub d : a .d ≤ lastInstant
   pub new : (l : Task) → l ∈ b .tasks → T (live l) → l .id ≡ a .id → ⊥
@@ -70,14 +71,15 @@ submit-accepted b n a e =
     let r8 = none-holds 8 _ _ (omega arith) (r7 .1) in
     let r18 = none-holds 18 _ _ (omega arith) (r8 .1) in
     let r9 = none-holds 9 _ _ (omega arith) (r18 .1) in
-    let five = not-not (sizeFits (b .device) (a .w) (a .h)) (r5 .0) in
+    let five = size-out (b .device) (a .w) (a .h) (not-not (sizeFits (b .device) (a .w) (a .h)) (r5 .0)) in
     let six = not-not (timeFits (a .e) (a .d)) (r6 .0) in
     record {
       sound = sound-out (b .device) (b .now) (b .tasks) (not-not (soundBoard b) (r1 .0));
       planner = nltb→le lastPlanner n (r3 .0);
       id = positive (r4 .0);
-      w = within-out 1 (b .device .columns) (a .w) (and-l (within 1 (b .device .columns) (a .w)) (within 1 (b .device .rows) (a .h)) five);
-      h = within-out 1 (b .device .rows) (a .h) (and-r (within 1 (b .device .columns) (a .w)) (within 1 (b .device .rows) (a .h)) five);
+      w = five .width;
+      h = five .height;
+      stepped = five .stepped;
       e = within-out 1 longest (a .e) (and-l (within 1 longest (a .e)) (leb (a .d) lastInstant) six);
       d = leb→le (a .d) lastInstant (and-r (within 1 longest (a .e)) (leb (a .d) lastInstant) six);
       new = λ l m t q.
@@ -92,7 +94,7 @@ submit-accepted b n a e =
     positive h = let k : a .id ≡ 0 → ⊥ = λ z. T-not (eqb (a .id) 0) h (rw z tt) in omega arith
 
 -- the record as booked is a sound task, apart from every live one
-module _ (b : Board) (n : ℕ) (a : Submission) (big : a .id ≤ largestId) (k : Accepted b n a) (p : Place) (o : Opening (b .device .columns) (b .now) (liveOf b) a p) where
+module _ (b : Board) (n : ℕ) (a : Submission) (big : a .id ≤ largestId) (k : Accepted b n a) (p : Place) (o : Opening (b .device .grid) (b .device .columns) (b .now) (liveOf b) a p) where
   new-task : SoundTask (b .device) (b .now) (booked (b .now) a (p .start) (p .place))
   unfolding booked stamped
   new-task =
@@ -105,6 +107,8 @@ module _ (b : Board) (n : ℕ) (a : Submission) (big : a .id ≤ largestId) (k :
         d = k .d;
         from-one = o .from-one;
         on-device = o .on-device;
+        stepped = k .stepped;
+        on-grid = o .on-grid;
         in-time = o .in-time;
         unfinished = l;
         phase = unfold stamped in stamped-phase (b .now) _ l;
@@ -119,14 +123,14 @@ pub submitted-sound : (b : Board) (n : ℕ) (a : Submission) → a .id ≤ large
 unfolding submitted answered orRefused taken withTask
 submitted-sound b n a big s = go (refusedSubmit b n a) refl
   where
-    place : (k : Accepted b n a) (r : Option Place) → planned (b .device .columns) (b .now) (liveOf b) a n ≡ r → SoundBoard (taken b a r .board)
+    place : (k : Accepted b n a) (r : Option Place) → planned (b .device .grid) (b .device .columns) (b .now) (liveOf b) a n ≡ r → SoundBoard (taken b a r .board)
     place k none e = s
     place k (some p) e =
-        let o = planned-opens (b .device .columns) (b .now) (liveOf b) a (k .reachable) n e in
+        let o = planned-opens (b .device .grid) (b .device .columns) (b .now) (liveOf b) a (k .reachable) n e in
         booked-sound (b .device) (b .now) (b .tasks) s (booked (b .now) a (p .start) (p .place)) (new-task b n a big k p o) (new-apart b n a big k p o)
 
-    go : (r : ℕ) → refusedSubmit b n a ≡ r → SoundBoard (orRefused r (λ x. record { answer = Refused x; board = b }) (taken b a (planned (b .device .columns) (b .now) (liveOf b) a n)) .board)
-    go zero e = place (submit-accepted b n a e) (planned (b .device .columns) (b .now) (liveOf b) a n) refl
+    go : (r : ℕ) → refusedSubmit b n a ≡ r → SoundBoard (orRefused r (λ x. record { answer = Refused x; board = b }) (taken b a (planned (b .device .grid) (b .device .columns) (b .now) (liveOf b) a n)) .board)
+    go zero e = place (submit-accepted b n a e) (planned (b .device .grid) (b .device .columns) (b .now) (liveOf b) a n) refl
     go (suc r) e = s
 
 -- clock
@@ -186,7 +190,7 @@ refused-withdraw-same b n k e = rw e
 -- a rejection too
 pub rejected-same : (b : Board) (n : ℕ) (a : Submission) → submitted b n a .answer ≡ Rejected → submitted b n a .board ≡ b
 unfolding submitted answered orRefused taken
-rejected-same b n a e = go (refusedSubmit b n a) (planned (b .device .columns) (b .now) (liveOf b) a n) e
+rejected-same b n a e = go (refusedSubmit b n a) (planned (b .device .grid) (b .device .columns) (b .now) (liveOf b) a n) e
   where
     after : ℕ → Option Place → Submitted
     after r o = orRefused r (λ x. record { answer = Refused x; board = b }) (taken b a o)
@@ -225,18 +229,18 @@ clock-twice b i j s l m h =
     ∙ ap (λ ks. record { number = 0; board = record { tasks = ks; now = j; device = b .device } }) (aged-twice i j (b .tasks) m)
     ∙ sym (clocked-done b j s (omega arith) h)
 
--- A NEW BOARD IS SOUND where its size is in range; otherwise it is the board of zeros, which is not
-pub created-sound : (W H : ℕ) → T (deviceFits (device W H)) → SoundBoard (created W H .board)
+-- A NEW BOARD IS SOUND where its size and grid are in range; otherwise it is the board of zeros, which is not
+pub created-sound : (W H g : ℕ) → T (deviceFits (device W H g)) → SoundBoard (created W H g .board)
 unfolding created refusedCreate orRefused freshBoard sound all? slotSound zeros pairwise? keep
-created-sound W H t = rw (passed-over 2 (not (deviceFits D)) [] (ap not (is-true (deviceFits D) t))) (unfold refusal in fresh)
+created-sound W H g t = rw (passed-over 2 (not (deviceFits D)) [] (ap not (is-true (deviceFits D) t))) (unfold refusal in fresh)
   where
     D : Device
-    D = device W H
+    D = device W H g
 
     fresh : Sound D 0 (replicate 64 freeSlot)
     fresh = sound-out D 0 (replicate 64 freeSlot) (rw (is-true (deviceFits D) t) tt)
 
-pub zero-board : zeroBoard ≡ record { tasks = replicate 64 freeSlot; now = 0; device = device 0 0 }
+pub zero-board : zeroBoard ≡ record { tasks = replicate 64 freeSlot; now = 0; device = device 0 0 0 }
 unfolding freshBoard
 zero-board = refl
 

@@ -1,5 +1,6 @@
 pub mod Tested
 pub mod Kept
+pub mod OnGrid
 pub mod Submit
 pub mod Placed
 pub mod Window

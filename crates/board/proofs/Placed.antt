@@ -25,7 +25,7 @@ use Rattle.board.proofs.Submit.{accepted-answered, free-inside, booked-
 
 module _ (b : Board) (n : ℕ) (a : Submission) where
   abbrev found : Option Place
-  found = planned (b .device .columns) (b .now) (liveOf b) a n
+  found = planned (b .device .grid) (b .device .columns) (b .now) (liveOf b) a n
 
   -- an answer that is no refusal was given by the planner
   unrefused : (x : Answer) → submitted b n a .answer ≡ x → ((k : ℕ) → x ≡ Refused k → ⊥) → refusedSubmit b n a ≡ 0
@@ -50,29 +50,29 @@ module _ (b : Board) (n : ℕ) (a : Submission) where
   taken-none (some p) e = absurd (let z : _≡_ {A = ℕ} 0 1 = cc in omega arith)
 
   -- WHATEVER IS PLACED starts from now to d − e, lies within the device, meets no live task, and its finish is told
-  pub placed-opens : {c s f : ℕ} → submitted b n a .answer ≡ Placed c s f → Opening (b .device .columns) (b .now) (liveOf b) a (pair s c) × (f ≡ s + a .e)
+  pub placed-opens : {c s f : ℕ} → submitted b n a .answer ≡ Placed c s f → Opening (b .device .grid) (b .device .columns) (b .now) (liveOf b) a (pair s c) × (f ≡ s + a .e)
   placed-opens {c} {s} {f} e =
       let r = unrefused (Placed c s f) e (λ k q. let z : _≡_ {A = ℕ} 0 1 = cc in omega arith) in
       let k = submit-accepted b n a r in
       let t = taken-place found (sym (ap (λ y. y .answer) (accepted-answered b n a r)) ∙ e) in
-      (planned-opens (b .device .columns) (b .now) (liveOf b) a (k .reachable) n (t .0), t .1)
+      (planned-opens (b .device .grid) (b .device .columns) (b .now) (liveOf b) a (k .reachable) n (t .0), t .1)
 
 -- FULL takes the first opening
-pub full-placed : (b : Board) (a : Submission) {c s f : ℕ} → submitted b 3 a .answer ≡ Placed c s f → (q : Place) → Opening (b .device .columns) (b .now) (liveOf b) a q
+pub full-placed : (b : Board) (a : Submission) {c s f : ℕ} → submitted b 3 a .answer ≡ Placed c s f → (q : Place) → Opening (b .device .grid) (b .device .columns) (b .now) (liveOf b) a q
     → (q ≡ pair s c) ⊎ Before (pair s c) q
 unfolding planned
 full-placed b a {c} {s} {f} e q o =
     let r = unrefused b 3 a (Placed c s f) e (λ k x. let z : _≡_ {A = ℕ} 0 1 = cc in omega arith) in
     let t = taken-place b 3 a (found b 3 a) (sym (ap (λ y. y .answer) (accepted-answered b 3 a r)) ∙ e) in
-    full-first (b .device .columns) (b .now) (liveOf b) a (pair s c) q (t .0) o
+    full-first (b .device .grid) (b .device .columns) (b .now) (liveOf b) a (pair s c) q (t .0) o
 
 -- and rejects only where there is none
-pub full-rejected : (b : Board) (a : Submission) → submitted b 3 a .answer ≡ Rejected → (q : Place) → Opening (b .device .columns) (b .now) (liveOf b) a q → ⊥
+pub full-rejected : (b : Board) (a : Submission) → submitted b 3 a .answer ≡ Rejected → (q : Place) → Opening (b .device .grid) (b .device .columns) (b .now) (liveOf b) a q → ⊥
 unfolding planned
 full-rejected b a e q o =
     let r = unrefused b 3 a Rejected e (λ k x. let z : _≡_ {A = ℕ} 0 1 = cc in omega arith) in
     let t = taken-none b 3 a (found b 3 a) (sym (ap (λ y. y .answer) (accepted-answered b 3 a r)) ∙ e) in
-    full-rejects (b .device .columns) (b .now) (liveOf b) a t q o
+    full-rejects (b .device .grid) (b .device .columns) (b .now) (liveOf b) a t q o
 
 -- WHAT A PLACE BOOKS: the lowest free slot, the record with the column and start answered; nothing else changes
 pub record BooksAt (b : Board) (n : ℕ) (a : Submission) (free c s f : ℕ) : Type 0 where
@@ -89,7 +89,7 @@ placed-books b n a {free} {c} {s} {f} z e =
     let r = unrefused b n a (Placed c s f) e (λ k q. let y : _≡_ {A = ℕ} 0 1 = cc in omega arith) in
     let k = submit-accepted b n a r in
     let t = taken-place b n a (found b n a) (sym (ap (λ y. y .answer) (accepted-answered b n a r)) ∙ e) in
-    let o = planned-opens (b .device .columns) (b .now) (liveOf b) a (k .reachable) n (t .0) in
+    let o = planned-opens (b .device .grid) (b .device .columns) (b .now) (liveOf b) a (k .reachable) n (t .0) in
     record {
       accepted = k;
       inside = omega (arith, z, free-inside b n a k);

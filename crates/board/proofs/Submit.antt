@@ -40,6 +40,7 @@ use Rattle.board.specs.Standing.{submittedBooked}
 use Rattle.refusals.specs.Refusals.{submitTests}
 use Rattle.refusals.proofs.First.{sound-passes, unsound-refused}
 use Rattle.board.proofs.Kept.{Accepted, submit-accepted}
+use Rattle.board.proofs.OnGrid.{board-planned}
 
 pub submit-unsound : (b : Board) (n : ℕ) (a : Submission) → soundBoard b ≡ false → submitted b n a ≡ record { answer = Refused 1; board = b }
 unfolding submitted refusedSubmit orRefused
@@ -55,7 +56,7 @@ found-some none e = absurd (let z : _≡_ {A = ℕ} 0 1 = cc in omega arith)
 found-some (some p) {c} {t} e = let x : c ≡ p .place = cc in let y : t ≡ p .start = cc in λ i. some (pair (sym y i) (sym x i))
 
 -- a task that is not refused is answered by its planner
-pub accepted-answered : (b : Board) (n : ℕ) (a : Submission) → refusedSubmit b n a ≡ 0 → submitted b n a ≡ taken b a (planned (b .device .columns) (b .now) (liveOf b) a n)
+pub accepted-answered : (b : Board) (n : ℕ) (a : Submission) → refusedSubmit b n a ≡ 0 → submitted b n a ≡ taken b a (planned (b .device .grid) (b .device .columns) (b .now) (liveOf b) a n)
 unfolding submitted answered orRefused
 accepted-answered b n a e = rw e
 
@@ -129,9 +130,11 @@ module _ (b : Board) (n : ℕ) (a : Submission) (count free : ℕ) (rows : List 
       → r ≡ refusal (submitTests (b .device) (b .now) n a used (leb 64 free)) → r ≡ 0 → Accepted b n a
   accepted e q z = submit-accepted b n a (refused-after e ∙ sym q ∙ z)
 
-  -- the planners' answers are the book's
-  planned-lent : n ≤ lastPlanner → planned (b .device .columns) (b .now) (tasksOf count rows) (asked (a .w) (a .e) (a .d)) n ≡ planned (b .device .columns) (b .now) (liveOf b) a n
-  planned-lent h = planned-orderless (same-tasks (b .device) (b .now) (b .tasks) count rows (o .stands) (o .good)) W (b .now) (asked (a .w) (a .e) (a .d)) n ∙ by n h
+  -- the planners' answers, which the code finds as with g = 1, are the book's
+  planned-lent : Accepted b n a → planned 1 (b .device .columns) (b .now) (tasksOf count rows) (asked (a .w) (a .e) (a .d)) n ≡ planned (b .device .grid) (b .device .columns) (b .now) (liveOf b) a n
+  planned-lent k =
+      planned-orderless (same-tasks (b .device) (b .now) (b .tasks) count rows (o .stands) (o .good)) 1 W (b .now) (asked (a .w) (a .e) (a .d)) n
+      ∙ by n (k .planner) ∙ sym (board-planned b a (k .sound) (k .stepped) n)
     where
       W : ℕ
       W = b .device .columns
@@ -139,11 +142,11 @@ module _ (b : Board) (n : ℕ) (a : Submission) (count free : ℕ) (rows : List 
       ts : List Task
       ts = liveOf b
 
-      by : (m : ℕ) → m ≤ lastPlanner → planned W (b .now) (map bare ts) (asked (a .w) (a .e) (a .d)) m ≡ planned W (b .now) ts a m
-      by zero h = unfold planned in reference-bare W (b .now) ts (asked (a .w) (a .e) (a .d)) ∙ (unfold reference candidates clearOfWaiting booked stamped meets in refl)
-      by (suc zero) h = unfold planned in horizon-bare W (b .now) ts (asked (a .w) (a .e) (a .d)) ∙ (unfold horizon releasedEdges visited in refl)
-      by (suc (suc zero)) h = unfold planned in stuffing-bare W (b .now) ts (asked (a .w) (a .e) (a .d)) ∙ (unfold stuffing candidates clearOfWaiting visited booked stamped meets in refl)
-      by (suc (suc (suc zero))) h = unfold planned in full-bare W (b .now) ts (asked (a .w) (a .e) (a .d)) ∙ (unfold full ways booked stamped meets in refl)
+      by : (m : ℕ) → m ≤ lastPlanner → planned 1 W (b .now) (map bare ts) (asked (a .w) (a .e) (a .d)) m ≡ planned 1 W (b .now) ts a m
+      by zero h = unfold planned in reference-bare 1 W (b .now) ts (asked (a .w) (a .e) (a .d)) ∙ (unfold reference candidates clearOfWaiting booked stamped meets in refl)
+      by (suc zero) h = unfold planned in horizon-bare 1 W (b .now) ts (asked (a .w) (a .e) (a .d)) ∙ (unfold horizon releasedEdges visited in refl)
+      by (suc (suc zero)) h = unfold planned in stuffing-bare 1 W (b .now) ts (asked (a .w) (a .e) (a .d)) ∙ (unfold stuffing candidates clearOfWaiting visited booked stamped meets in refl)
+      by (suc (suc (suc zero))) h = unfold planned in full-bare 1 W (b .now) ts (asked (a .w) (a .e) (a .d)) ∙ (unfold full ways booked stamped meets in refl)
       by (suc (suc (suc (suc m)))) h = absurd (omega arith)
 
   -- A TASK THAT IS NOT REFUSED
@@ -164,10 +167,10 @@ module _ (b : Board) (n : ℕ) (a : Submission) (count free : ℕ) (rows : List 
     may-ask m = (k .planner, kept-lent-to o m, record { wide = k .w .low; columns = k .w .high; long = k .e .low; in-time = k .reachable; until = k .d })
 
     -- no place was found: the rejection
-    pub rejected : {f : Found} → f ≡ foundOf (planned (b .device .columns) (b .now) (tasksOf count rows) (wanted window) n) → f ≡ Nothing → Rejected ≡ submitted b n a .answer
+    pub rejected : {f : Found} → f ≡ foundOf (planned 1 (b .device .columns) (b .now) (tasksOf count rows) (wanted window) n) → f ≡ Nothing → Rejected ≡ submitted b n a .answer
     unfolding taken
     rejected x y =
-        let m = found-none (planned (b .device .columns) (b .now) (liveOf b) a n) (sym y ∙ x ∙ ap foundOf (planned-lent (k .planner))) in
+        let m = found-none (planned (b .device .grid) (b .device .columns) (b .now) (liveOf b) a n) (sym y ∙ x ∙ ap foundOf (planned-lent k)) in
         sym (ap (λ s. s .answer) (accepted-answered b n a none-refused ∙ ap (taken b a) m))
 
     -- a place was found
@@ -175,11 +178,11 @@ module _ (b : Board) (n : ℕ) (a : Submission) (count free : ℕ) (rows : List 
       pub fits : t + a .e ≤ lastInstant
       pub same : Placed (c % 65536) t (t + a .e) ≡ submitted b n a .answer
 
-    pub settled : {f : Found} {c t : ℕ} → f ≡ foundOf (planned (b .device .columns) (b .now) (tasksOf count rows) (wanted window) n) → f ≡ At c t → Settled c t
+    pub settled : {f : Found} {c t : ℕ} → f ≡ foundOf (planned 1 (b .device .columns) (b .now) (tasksOf count rows) (wanted window) n) → f ≡ At c t → Settled c t
     unfolding taken
     settled {f} {c} {t} x y =
-        let m = found-some (planned (b .device .columns) (b .now) (liveOf b) a n) (sym y ∙ x ∙ ap foundOf (planned-lent (k .planner))) in
-        let w = planned-opens (b .device .columns) (b .now) (liveOf b) a (k .reachable) n m in
+        let m = found-some (planned (b .device .grid) (b .device .columns) (b .now) (liveOf b) a n) (sym y ∙ x ∙ ap foundOf (planned-lent k)) in
+        let w = planned-opens (b .device .grid) (b .device .columns) (b .now) (liveOf b) a (k .reachable) n m in
         let u : c % 65536 ≡ c = omega (arith, w .on-device, k .sound .columns .high) in
         record {
           fits = omega (arith, w .in-time, k .d);

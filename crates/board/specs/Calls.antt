@@ -36,19 +36,19 @@ orRefused (suc k) refused done = refused (suc k)
 abbrev pub withTasks : Board → List Task → Board
 withTasks b ks = record { tasks = ks; now = b .now; device = b .device }
 
--- "A new board has the W and H asked for, now 0 and 64 free slots"
+-- "A new board has the W and H asked for, now 0 and 64 free slots"; document 02, Q-3: the grid asked for too
 unfoldable pub freshBoard : Device → Board
 freshBoard D = record { tasks = replicate mostTasks freeSlot; now = 0; device = D }
 
 -- "an unsound board of zeros comes back, every phase ended"
 abbrev pub zeroBoard : Board
-zeroBoard = freshBoard (device 0 0)
+zeroBoard = freshBoard (device 0 0 0)
 
--- NEW BOARD
-unfoldable pub created : ℕ → ℕ → Created
-created W H =
-    orRefused (refusedCreate (device W H)) (λ k. record { number = k; board = zeroBoard })
-    (record { number = 0; board = freshBoard (device W H) })
+-- NEW BOARD, on a grid g; document 01's has g = 1
+unfoldable pub created : ℕ → ℕ → ℕ → Created
+created W H g =
+    orRefused (refusedCreate (device W H g)) (λ k. record { number = k; board = zeroBoard })
+    (record { number = 0; board = freshBoard (device W H g) })
 
 -- "A task answered 0 takes the lowest free slot, its record as submitted with the column and start answered"
 unfoldable pub withTask : Board → Submission → Place → Board
@@ -61,7 +61,7 @@ taken b a (some p) = record { answer = Placed (p .place) (p .start) (p .start + 
 
 -- what planner n answers to a task that is not refused
 unfoldable pub answered : Board → ℕ → Submission → Submitted
-answered b n a = taken b a (planned (b .device .columns) (b .now) (liveOf b) a n)
+answered b n a = taken b a (planned (b .device .grid) (b .device .columns) (b .now) (liveOf b) a n)
 
 -- SUBMISSION
 unfoldable pub submitted : Board → ℕ → Submission → Submitted
@@ -86,7 +86,7 @@ withdrawn b n =
 
 -- "openings strictly after that pair"
 unfoldable pub remaining : Board → Submission → ℕ → ℕ → List Place
-remaining b a s c = openingsAfter (ways (b .device .columns) (b .now) (liveOf b) a) (pair s c)
+remaining b a s c = openingsAfter (ways (b .device .grid) (b .device .columns) (b .now) (liveOf b) a) (pair s c)
 
 -- OPENINGS: "for as many openings strictly after that pair as fit .. returns how many, and whether a further one remains"
 unfoldable pub opened : Board → Submission → ℕ → ℕ → ℕ → Opened

@@ -20,7 +20,7 @@ use tasks::Device;
 use tasks::Submission;
 use tasks::Task;
 
-// "A board is a device of W columns and H rows, a clock called now, and at most 64 live tasks."
+// "A board is a device of W columns and H rows, a clock called now, and at most 64 live tasks." The device has a grid too.
 pub struct Board {
     pub tasks: [Task; 64],
     pub now: u32,
@@ -142,7 +142,7 @@ pub fn decide<'a>(
     }
 }
 
-// "A new board has the W and H asked for, now 0 and 64 free slots".
+// "A new board has the W and H asked for, now 0 and 64 free slots", and the grid asked for.
 fn fresh(on: Device) -> Board
     ensures { λ r. ⌜ r ≡ freshBoard on ⌝ }
 {
@@ -156,13 +156,21 @@ fn fresh(on: Device) -> Board
 }
 
 impl Board {
-    // A new board; 2 and the board of zeros where W or H is out of range.
+    // A new board on which a task may begin at any column, document 01's: the grid is 1.
     pub fn new(columns: u16, rows: u16) -> Created
-        ensures { λ r. ⌜ r ≡ created columns rows ⌝ }
+        ensures { λ r. ⌜ r ≡ created columns rows 1 ⌝ }
+    {
+        Board::with_grid(columns, rows, 1)
+    }
+
+    // A new board on a grid; 2 and the board of zeros where W, H or the grid is out of range, or W no multiple of the grid.
+    pub fn with_grid(columns: u16, rows: u16, grid: u8) -> Created
+        ensures { λ r. ⌜ r ≡ created columns rows grid ⌝ }
     {
         let on = Device {
             columns: columns,
             rows: rows,
+            grid: grid,
         };
         if tasks::device_fits(on) {
             let board = fresh(on);
@@ -174,6 +182,7 @@ impl Board {
         let board = fresh(Device {
             columns: 0,
             rows: 0,
+            grid: 0,
         });
         Created {
             number: 2,
@@ -345,6 +354,7 @@ impl Board {
                 e: a.e,
                 d: a.d,
             },
+            self.device.grid as u32,
             start,
             column,
             buffer,

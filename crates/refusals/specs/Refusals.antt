@@ -27,7 +27,7 @@ refusal (t ∷ ts) = elim (t .holds) [ true ↦ t .number | false ↦ refusal ts
 abbrev pub unsound : Bool → Test
 unsound sound = 1 when not sound
 
--- "5 width or height out of range"
+-- "5 width or height out of range"; document 02, Q-3: "5 also for a width that is not [a multiple]"
 abbrev pub badSize : Device → Submission → Test
 badSize D a = 5 when not (sizeFits D (a .w) (a .h))
 
@@ -43,7 +43,7 @@ tooLate now a = 8 when ltb (a .d) (now + a .e)
 abbrev pub tooLax : ℕ → Submission → Test
 tooLax now a = 18 when ltb mostLaxity (laxity now (a .e) (a .d))
 
--- NEW BOARD: "2 new board: W or H out of range"
+-- NEW BOARD: "2 new board: W or H out of range"; document 02, Q-3: "2 also for g out of range or W not a multiple"
 abbrev pub createTests : Device → List Test
 createTests D = (2 when not (deviceFits D)) ∷ []
 

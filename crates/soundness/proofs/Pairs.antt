@@ -15,9 +15,9 @@ use Rattle.lists.proofs.Order.{Sorted, sorted-at, at-sorted, range-pairs, pairs
 use Rattle.lists.proofs.Append.{and-true, all-range-more, range-first}
 use Rattle.tasks.specs.declared.Device.{Device}
 use Rattle.tasks.specs.declared.Task.{Task}
-use Rattle.tasks.specs.Numbers.{within, deviceFits, lastInstant}
+use Rattle.tasks.specs.Numbers.{deviceFits, lastInstant}
 use Rattle.tasks.specs.Tasks.{meets, live, freeSlot}
-use Rattle.tasks.proofs.Laws.{within-out, meets-share, share-meets}
+use Rattle.tasks.proofs.Laws.{columns-fit, meets-share, share-meets}
 use Rattle.slots.specs.Slots.{liveIn, slotSound, together, sound}
 use Rattle.slots.proofs.Soundness.{SoundTask, task-out, Together, together-sym, pairs-in, pairs-out}
 use Rattle.live.specs.Live.{idAt, slotAt, taskAt, OnDevice}
@@ -216,7 +216,7 @@ module _ (D : Device) (now : ℕ) (ks : List Task) (raw : List ℕ) (v : Finding
     pub sorted-device : OnDevice 256 (v .count) rows
     sorted-device =
         on-widest D now ks (v .count) rows stands good
-        (within-out 1 256 (D .columns) (and-l (within 1 256 (D .columns)) (within 1 1024 (D .rows)) (and-l (deviceFits D) (leb now lastInstant) fits)) .high)
+        (columns-fit D (and-l (deviceFits D) (leb now lastInstant) fits))
 
     -- and by the pairs
     pub tested-pairs : {differ apart : Bool} → differ ≡ pairwise? (λ i j. not (eqb (idAt rows i) (idAt rows j))) (range 0 (v .count)) → Judged (v .count) rows apart

@@ -7,9 +7,10 @@ use native.Mathlib.Decide.{decLe, decLt}
 use lib.Dec.{T, leb, ltb, leb→le, le→leb, ltb→lt, lt→ltb, eqb→eq}
 use borrow.Author.Tests.{lt-ltb, le-ltb}
 use Rattle.lists.proofs.Bools.{and-l, and-r, and-i, same-bool}
+use Rattle.tasks.specs.declared.Device.{Device}
 use Rattle.tasks.specs.declared.Phase.the-variants.{Ended, Waiting, Running}
 use Rattle.tasks.specs.declared.Task.{Task}
-use Rattle.tasks.specs.Numbers.{within}
+use Rattle.tasks.specs.Numbers.{mostColumns, within, multiple, deviceFits, sizeFits}
 use Rattle.tasks.specs.Tasks.{from, finish, past, overlap, meets, covers, holds, phaseAt, runningPhase, samePhase, freeSlot, zeros}
 
 -- a number from lo to hi
@@ -22,6 +23,28 @@ within-out lo hi n t = record { low = leb→le lo n (and-l (leb lo n) (leb n hi)
 
 pub within-in : (lo hi n : ℕ) → Between lo hi n → T (within lo hi n)
 within-in lo hi n b = and-i (leb lo n) (leb n hi) (le→leb lo n (b .low)) (le→leb n hi (b .high))
+
+-- the columns of a device that fits
+pub columns-fit : (D : Device) → T (deviceFits D) → D .columns ≤ mostColumns
+columns-fit D t = within-out 1 mostColumns (D .columns) (search (and-l, and-r) depth 5) .high
+
+-- a size that fits a device
+pub record Sized (D : Device) (w h : ℕ) : Type 0 where
+  pub width : Between 1 (D .columns) w
+  pub height : Between 1 (D .rows) h
+  pub stepped : T (multiple (D .grid) w)
+
+pub size-out : (D : Device) (w h : ℕ) → T (sizeFits D w h) → Sized D w h
+size-out D w h t = record {
+  width = within-out 1 (D .columns) w (search (and-l, and-r) depth 4);
+  height = within-out 1 (D .rows) h (search (and-l, and-r) depth 4);
+  stepped = search (and-l, and-r) depth 4;
+}
+
+pub size-in : (D : Device) (w h : ℕ) → Sized D w h → T (sizeFits D w h)
+size-in D w h s =
+    and-i (within 1 (D .columns) w && within 1 (D .rows) h) (multiple (D .grid) w)
+    (and-i (within 1 (D .columns) w) (within 1 (D .rows) h) (within-in 1 (D .columns) w (s .width)) (within-in 1 (D .rows) h (s .height))) (s .stepped)
 
 -- a number that lies from a up to, not including, b and from c up to d
 pub record Common (a b c d : ℕ) : Type 0 where

@@ -35,11 +35,12 @@ cast-t18 c = search needs
 
 list-requires : tie.Need-list-requires
 list-requires c κs =
-    let n = c .before .before .before .before .before .before in
+    let n = c .before .before .before .before .before .before .before in
     let t = n .before .before .before in
     let a = t .before .before .before .before .before .args in
     let k = t .stand .ensures .tested .kept (not-false _ (n .before .if1 .left)) in
-    may-list (a .self) (a .a) (a .start) (a .column) (a .buffer .now) _ _ k (n .refuse-openings .ensures) (omega arith) (t .stand .ensures .masked (not-false _ (n .before .if1 .left)))
+    let passed = c .before .before .before .before .before .before .if2 .left in
+    may-list (a .self) (a .a) (a .start) (a .column) (a .buffer .now) _ _ k (n .refuse-openings .ensures) (omega (arith, passed)) (t .stand .ensures .masked (not-false _ (n .before .if1 .left)))
 
 same-length : tie.Need-same-length
 same-length c = search needs
@@ -47,11 +48,11 @@ same-length c = search needs
 returns-3 : tie.Need-returns-3
 returns-3 c =
     let l = c .before .before in
-    let n = l .before .before .before .before .before .before .before in
+    let n = l .before .before .before .before .before .before .before .before in
     let t = n .before .before .before in
     let a = t .before .before .before .before .before .args in
     let k = t .stand .ensures .tested .kept (not-false _ (n .before .if1 .left)) in
-    let passed = l .before .before .before .before .before .before .if2 .left in
+    let passed = l .before .before .before .before .before .before .before .if2 .left in
     let written = l .list .ensures in
     listed-opened (a .self) (a .a) (a .start) (a .column) (a .buffer .now) _ _ k (n .refuse-openings .ensures) (omega (arith, passed)) (written .0) (written .1)
 
