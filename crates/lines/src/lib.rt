@@ -73,7 +73,7 @@ fn grid_line(text: &[u8], at: usize) -> Line
     })
 }
 
-// W and H are right and a third word stands behind them exactly where the third of two numbers is the wrong one.
+// Of two numbers the third is the wrong one exactly where W and H are right and a word stands behind them: the grid.
 fn board_line(text: &[u8], at: usize) -> Line
     requires { ⌜ at ≤ length (now text) ⌝ }
     ensures { λ r. ⌜ r ≡ boardLine (words (drop at (now (text .entry)))) ⌝ }
