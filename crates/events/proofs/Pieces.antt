@@ -1,7 +1,7 @@
 -- Reading where more bytes follow: a whole record stays what it was, and no record is longer than 18 bytes. Assumes nothing.
-use Prim.Native.Nat.{ℕ, suc, _+_, _≤_, _<_}
-use mathlib.Core.Path.{_≡_, refl, sym, ap, _∙_, subst}
-use mathlib.Core.List.{List, [], _∷_, _++_, append-nil}
+use Prim.Native.Nat.{ℕ, suc, _+_, _≤_}
+use mathlib.Core.Path.{_≡_, refl, sym, ap, _∙_}
+use mathlib.Core.List.{List, [], _∷_, _++_}
 use mathlib.Core.Bool.{Bool, true, false, cond}
 use native.Mathlib.Omega.{arith}
 use lib.Dec.{ltb}
@@ -11,7 +11,7 @@ use Rattle.events.specs.declared.Event.{Event}
 use Rattle.events.specs.declared.Event.the-variants.{NewBoard, Submit, Clock, Withdraw, GridBoard}
 use Rattle.events.specs.declared.Reading.{Reading}
 use Rattle.events.specs.declared.Reading.the-variants.{End, Got, CutShort, Unknown}
-use Rattle.events.specs.Records.{numberOf, field, newBoardIn, submitIn, clockIn, withdrawIn, gridBoardIn, wholeOr15, readFrom}
+use Rattle.events.specs.Records.{numberOf, field, wholeOr15, readFrom}
 use Rattle.events.proofs.Calls.{taken-there}
 use Rattle.events.proofs.Found.{Known, new-board, submit, clock, withdraw, grid-board, known, whole, unknown, Found, got, cut, none, found, Taken, taken, got-taken}
 
