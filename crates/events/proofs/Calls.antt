@@ -6,11 +6,11 @@ use native.Mathlib.Omega.{arith}
 use lib.ListN.{length, drop, length-append, length-drop}
 use lib.Seq.{drop-append-seam}
 use Rattle.events.specs.declared.Event.{Event}
-use Rattle.events.specs.declared.Event.the-variants.{NewBoard, Submit, Clock, Withdraw}
+use Rattle.events.specs.declared.Event.the-variants.{NewBoard, Submit, Clock, Withdraw, GridBoard}
 use Rattle.events.specs.declared.Reading.the-variants.{Got}
 use Rattle.events.specs.declared.Written.the-variants.{NoRoom}
-use Rattle.events.specs.Records.{bytesOf, kindOf, bodyOf, recordOf, newBoardIn, submitIn, clockIn, withdrawIn, readFrom, written, writtenBuffer, toldRead, toldWritten}
-use Rattle.events.proofs.Found.{Known, new-board, submit, clock, withdraw, NoKind, known, whole, short, unknown, Taken, taken, got-taken}
+use Rattle.events.specs.Records.{bytesOf, kindOf, bodyOf, recordOf, newBoardIn, submitIn, clockIn, withdrawIn, gridBoardIn, readFrom, written, writtenBuffer, toldRead, toldWritten}
+use Rattle.events.proofs.Found.{Known, new-board, submit, clock, withdraw, grid-board, NoKind, known, whole, short, unknown, Taken, taken, got-taken}
 use Rattle.events.proofs.Writing.{by-room, room-answer, room-buffer, short-answer, short-buffer}
 use Rattle.events.proofs.RoundTrip.{Fits, read-written}
 
@@ -21,6 +21,7 @@ has-kind (NewBoard W H) = (newBoardIn, new-board)
 has-kind (Submit n a) = (submitIn, submit)
 has-kind (Clock i) = (clockIn, clock)
 has-kind (Withdraw n) = (withdrawIn, withdraw)
+has-kind (GridBoard W H g) = (gridBoardIn, grid-board)
 
 module _ (v : Event) (buffer : List ℕ) where
   -- WHAT WAS WRITTEN into a buffer with room READS BACK
@@ -79,6 +80,7 @@ kind-read new-board body = refl
 kind-read submit body = refl
 kind-read clock body = refl
 kind-read withdraw body = refl
+kind-read grid-board body = refl
 
 pub told-0 :
     {kind n : ℕ} {f : List ℕ → Event} → Known kind n f → (body : List ℕ) → n ≤ length body

@@ -12,7 +12,7 @@ use borrow.Author.Tests.{lt-ltb, le-ltb, ltb-true, ltb-false, ne-eqb, eqb-true, 
 use Rattle.events.specs.declared.Event.{Event}
 use Rattle.events.specs.declared.Reading.{Reading}
 use Rattle.events.specs.declared.Reading.the-variants.{End, Got, CutShort, Unknown}
-use Rattle.events.specs.Records.{newBoardIn, submitIn, clockIn, withdrawIn, wholeOr15, readFrom}
+use Rattle.events.specs.Records.{newBoardIn, submitIn, clockIn, withdrawIn, gridBoardIn, wholeOr15, readFrom}
 
 -- THE KNOWN KINDS: the kind byte, the body's length, and the event that such a body is
 pub data Known : ℕ → ℕ → (List ℕ → Event) → Type 0 where
@@ -20,6 +20,7 @@ pub data Known : ℕ → ℕ → (List ℕ → Event) → Type 0 where
   submit : Known 2 17 submitIn
   clock : Known 3 4 clockIn
   withdraw : Known 4 4 withdrawIn
+  grid-board : Known 5 5 gridBoardIn
 
 pub known :
     {kind n : ℕ} {f : List ℕ → Event} → Known kind n f → (body : List ℕ)
@@ -29,6 +30,7 @@ known new-board body = refl
 known submit body = refl
 known clock body = refl
 known withdraw body = refl
+known grid-board body = refl
 
 -- a body that is there is read; one with too few bytes is 15
 pub whole : (kind n : ℕ) (body : List ℕ) (v : Event) → n ≤ length body → wholeOr15 kind n body v ≡ Got v (suc n)
@@ -45,10 +47,17 @@ pub record NoKind (kind : ℕ) : Type 0 where
   pub not-2 : kind ≡ 2 → ⊥
   pub not-3 : kind ≡ 3 → ⊥
   pub not-4 : kind ≡ 4 → ⊥
+  pub not-5 : kind ≡ 5 → ⊥
 
 pub unknown : (kind : ℕ) → NoKind kind → (body : List ℕ) → readFrom (kind ∷ body) ≡ Unknown kind
 unfolding readFrom
-unknown kind k body = rw (ne-eqb kind 1 (k .not-1), ne-eqb kind 2 (k .not-2), ne-eqb kind 3 (k .not-3), ne-eqb kind 4 (k .not-4))
+unknown kind k body = rw (
+  ne-eqb kind 1 (k .not-1),
+  ne-eqb kind 2 (k .not-2),
+  ne-eqb kind 3 (k .not-3),
+  ne-eqb kind 4 (k .not-4),
+  ne-eqb kind 5 (k .not-5),
+)
 
 -- WHAT READING GIVES where there is a kind byte: one of three
 pub data Found (kind : ℕ) (body : List ℕ) : Reading → Type 0 where
@@ -73,7 +82,14 @@ module _ (kind : ℕ) (body : List ℕ) where
       either (Found kind body) (eqb kind 2) _ _ (λ e. of-kind 17 submitIn (rw (eqb-true kind 2 e) submit)) (λ b.
       either (Found kind body) (eqb kind 3) _ _ (λ e. of-kind 4 clockIn (rw (eqb-true kind 3 e) clock)) (λ c.
       either (Found kind body) (eqb kind 4) _ _ (λ e. of-kind 4 withdrawIn (rw (eqb-true kind 4 e) withdraw)) (λ d.
-      none (record { not-1 = eqb-false kind 1 a; not-2 = eqb-false kind 2 b; not-3 = eqb-false kind 3 c; not-4 = eqb-false kind 4 d })))))
+      either (Found kind body) (eqb kind 5) _ _ (λ e. of-kind 5 gridBoardIn (rw (eqb-true kind 5 e) grid-board)) (λ g.
+      none (record {
+        not-1 = eqb-false kind 1 a;
+        not-2 = eqb-false kind 2 b;
+        not-3 = eqb-false kind 3 c;
+        not-4 = eqb-false kind 4 d;
+        not-5 = eqb-false kind 5 g;
+      }))))))
 
 -- WHAT WAS TAKEN: a kind byte with as many bytes after it as its kind fixes, and the event that they are
 pub data Taken : List ℕ → Event → ℕ → Type 0 where

@@ -1,19 +1,19 @@
 -- Reading where more bytes follow: a whole record stays what it was, and no record is longer than 18 bytes. Assumes nothing.
-use Prim.Native.Nat.{ℕ, suc, _+_, _≤_, _<_}
-use mathlib.Core.Path.{_≡_, refl, sym, ap, _∙_, subst}
-use mathlib.Core.List.{List, [], _∷_, _++_, append-nil}
+use Prim.Native.Nat.{ℕ, suc, _+_, _≤_}
+use mathlib.Core.Path.{_≡_, refl, sym, ap, _∙_}
+use mathlib.Core.List.{List, [], _∷_, _++_}
 use mathlib.Core.Bool.{Bool, true, false, cond}
 use native.Mathlib.Omega.{arith}
 use lib.Dec.{ltb}
 use lib.ListN.{length, take, drop, length-append, length-take, length-drop, take-append-drop}
 use lib.Seq.{take-append-le, drop-append-le, take-all}
 use Rattle.events.specs.declared.Event.{Event}
-use Rattle.events.specs.declared.Event.the-variants.{NewBoard, Submit, Clock, Withdraw}
+use Rattle.events.specs.declared.Event.the-variants.{NewBoard, Submit, Clock, Withdraw, GridBoard}
 use Rattle.events.specs.declared.Reading.{Reading}
 use Rattle.events.specs.declared.Reading.the-variants.{End, Got, CutShort, Unknown}
-use Rattle.events.specs.Records.{numberOf, field, newBoardIn, submitIn, clockIn, withdrawIn, wholeOr15, readFrom}
+use Rattle.events.specs.Records.{numberOf, field, wholeOr15, readFrom}
 use Rattle.events.proofs.Calls.{taken-there}
-use Rattle.events.proofs.Found.{Known, new-board, submit, clock, withdraw, known, whole, unknown, Found, got, cut, none, found, Taken, taken, got-taken}
+use Rattle.events.proofs.Found.{Known, new-board, submit, clock, withdraw, grid-board, known, whole, unknown, Found, got, cut, none, found, Taken, taken, got-taken}
 
 -- a field that is there
 field-there : (at n : ℕ) (l more : List ℕ) → at + n ≤ length l → field at n (l ++ more) ≡ field at n l
@@ -33,6 +33,10 @@ event-there submit body more h = λ i. Submit (field-there 0 1 body more (omega 
 })
 event-there clock body more h = λ i. Clock (field-there 0 4 body more (omega arith) i)
 event-there withdraw body more h = λ i. Withdraw (field-there 0 4 body more (omega arith) i)
+event-there grid-board body more h = λ i. GridBoard
+    (field-there 0 2 body more (omega arith) i)
+    (field-there 2 2 body more (omega arith) i)
+    (field-there 4 1 body more (omega arith) i)
 
 -- A WHOLE RECORD stays what it was, whatever follows it
 pub got-longer : (l more : List ℕ) (v : Event) (size : ℕ) → readFrom l ≡ Got v size → readFrom (l ++ more) ≡ Got v size
@@ -79,6 +83,7 @@ body-few new-board = omega arith
 body-few submit = omega arith
 body-few clock = omega arith
 body-few withdraw = omega arith
+body-few grid-board = omega arith
 
 -- THE BEGIN OF A RECORD: no whole one, and of no unknown kind
 pub record Begun (l : List ℕ) : Type 0 where

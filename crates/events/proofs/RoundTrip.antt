@@ -8,10 +8,10 @@ use lib.ListN.{length, take, drop, getD}
 use lib.Seq.{take-add, drop-drop}
 use Rattle.events.specs.declared.Ask.{Ask}
 use Rattle.events.specs.declared.Event.{Event}
-use Rattle.events.specs.declared.Event.the-variants.{NewBoard, Submit, Clock, Withdraw}
+use Rattle.events.specs.declared.Event.the-variants.{NewBoard, Submit, Clock, Withdraw, GridBoard}
 use Rattle.events.specs.declared.Reading.the-variants.{Got}
-use Rattle.events.specs.Records.{bytesOf, numberOf, field, kindOf, bodyOf, recordOf, newBoardIn, submitIn, clockIn, withdrawIn, readFrom}
-use Rattle.events.proofs.Found.{Known, new-board, submit, clock, withdraw, whole, Taken, taken, got-taken}
+use Rattle.events.specs.Records.{bytesOf, numberOf, field, kindOf, bodyOf, recordOf, newBoardIn, submitIn, clockIn, withdrawIn, gridBoardIn, readFrom}
+use Rattle.events.proofs.Found.{Known, new-board, submit, clock, withdraw, grid-board, whole, Taken, taken, got-taken}
 
 -- a number of n bytes is the number of its n bytes
 pub number-bytes : (n x : ℕ) → x < 256 ^ n → numberOf (bytesOf n x) ≡ x
@@ -56,6 +56,7 @@ pub data Fits : Event → Type 0 where
   submission : {n : ℕ} {a : Ask} → n < 256 ^ 1 → AskFits a → Fits (Submit n a)
   instant : {i : ℕ} → i < 256 ^ 4 → Fits (Clock i)
   name : {n : ℕ} → n < 256 ^ 4 → Fits (Withdraw n)
+  gridded : {W H g : ℕ} → W < 256 ^ 2 → H < 256 ^ 2 → g < 256 ^ 1 → Fits (GridBoard W H g)
 
 -- WHAT WAS WRITTEN READS BACK as the same event and length, whatever follows it
 pub read-written : (v : Event) → Fits v → (rest : List ℕ) → readFrom (recordOf v ++ rest) ≡ Got v (length (recordOf v))
@@ -76,6 +77,9 @@ read-written (Clock i) (instant p) rest =
     whole 3 4 (bodyOf (Clock i) ++ rest) _ (omega arith) ∙ ap (λ x. Got (Clock x) 5) (number-bytes 4 i p)
 read-written (Withdraw n) (name p) rest =
     whole 4 4 (bodyOf (Withdraw n) ++ rest) _ (omega arith) ∙ ap (λ x. Got (Withdraw x) 5) (number-bytes 4 n p)
+read-written (GridBoard W H g) (gridded p q r) rest =
+    whole 5 5 (bodyOf (GridBoard W H g) ++ rest) _ (omega arith)
+    ∙ (λ i. Got (GridBoard (number-bytes 2 W p i) (number-bytes 2 H q i) (number-bytes 1 g r i)) 6)
 
 -- two fields beside each other
 beside : (at n m : ℕ) (l : List ℕ) → take n (drop at l) ++ take m (drop (at + n) l) ≡ take (n + m) (drop at l)
@@ -104,6 +108,12 @@ withdraw-again : body-again withdrawIn 4
 unfolding body-again bodyOf
 withdraw-again l h k = field-bytes 0 4 l h k
 
+grid-board-again : body-again gridBoardIn 5
+unfolding body-again bodyOf
+grid-board-again l h k =
+    rw (field-bytes 0 2 l h (omega arith), field-bytes 2 2 l h (omega arith), field-bytes 4 1 l h (omega arith))
+    (rw (beside 0 2 2 l) (beside 0 4 1 l))
+
 -- an event has its kind's byte, and the body it was read from
 kind-again : {kind n : ℕ} {f : List ℕ → Event} → Known kind n f → (l : List ℕ) → Bytes l → n ≤ length l → recordOf (f l) ≡ kind ∷ take n l
 unfolding recordOf kindOf body-again
@@ -111,6 +121,7 @@ kind-again new-board l h k = ap (λ x. 1 ∷ x) (new-board-again l h k)
 kind-again submit l h k = ap (λ x. 2 ∷ x) (submit-again l h k)
 kind-again clock l h k = ap (λ x. 3 ∷ x) (clock-again l h k)
 kind-again withdraw l h k = ap (λ x. 4 ∷ x) (withdraw-again l h k)
+kind-again grid-board l h k = ap (λ x. 5 ∷ x) (grid-board-again l h k)
 
 -- WHAT WAS READ, WRITTEN AGAIN, gives the bytes that were taken
 pub written-again : (l : List ℕ) → Bytes l → (v : Event) (size : ℕ) → readFrom l ≡ Got v size → recordOf v ≡ take size l

@@ -9,8 +9,8 @@ use lib.Seq.{getD-drop}
 use Rattle.events.specs.declared.Event.{Event}
 use Rattle.events.specs.declared.Reading.the-variants.{Got}
 use Rattle.events.specs.Records.{numberOf, field, readFrom}
-use Rattle.events.proofs.Found.{Known, new-board, submit, clock, withdraw, Taken, taken, got-taken}
-use Rattle.events.proofs.RoundTrip.{Bytes, Fits, board, submission, instant, name}
+use Rattle.events.proofs.Found.{Known, new-board, submit, clock, withdraw, grid-board, Taken, taken, got-taken}
+use Rattle.events.proofs.RoundTrip.{Bytes, Fits, board, submission, instant, name, gridded}
 
 -- bytes further on are bytes
 pub bytes-drop : (n : ℕ) (l : List ℕ) → Bytes l → Bytes (drop n l)
@@ -39,6 +39,7 @@ kind-fits submit l h =
     })
 kind-fits clock l h = instant (field-below 0 4 l h)
 kind-fits withdraw l h = name (field-below 0 4 l h)
+kind-fits grid-board l h = gridded (field-below 0 2 l h) (field-below 2 2 l h) (field-below 4 1 l h)
 
 -- WHAT IS READ FROM BYTES fits its record
 pub read-fits : (l : List ℕ) → Bytes l → (v : Event) (size : ℕ) → readFrom l ≡ Got v size → Fits v

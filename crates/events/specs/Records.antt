@@ -9,7 +9,7 @@ use Rattle.lists.specs.Lists.{overFront}
 use Rattle.tasks.specs.declared.Submission.{Submission}
 use Rattle.events.specs.declared.Ask.{Ask}
 use Rattle.events.specs.declared.Event.{Event}
-use Rattle.events.specs.declared.Event.the-variants.{NewBoard, Submit, Clock, Withdraw}
+use Rattle.events.specs.declared.Event.the-variants.{NewBoard, Submit, Clock, Withdraw, GridBoard}
 use Rattle.events.specs.declared.Reading.{Reading}
 use Rattle.events.specs.declared.Reading.the-variants.{End, Got, CutShort, Unknown}
 use Rattle.events.specs.declared.Written.{Written}
@@ -17,12 +17,13 @@ use Rattle.events.specs.declared.Written.the-variants.{NoRoom, Length}
 unfoldable pub use Rattle.fields.specs.Fields.{bytesOf, numberOf}
 pub use Rattle.fields.specs.Fields.{field}
 
--- "Kind": 1 new board, 2 submit, 3 clock, 4 withdraw
+-- "Kind": 1 new board, 2 submit, 3 clock, 4 withdraw, 5 new board on a grid
 unfoldable pub kindOf : Event → ℕ
 kindOf (NewBoard W H) = 1
 kindOf (Submit n a) = 2
 kindOf (Clock i) = 3
 kindOf (Withdraw n) = 4
+kindOf (GridBoard W H g) = 5
 
 -- the id that an event names
 unfoldable pub idOf : Event → Option ℕ
@@ -30,14 +31,16 @@ idOf (NewBoard W H) = none
 idOf (Submit n a) = some (a .id)
 idOf (Clock i) = none
 idOf (Withdraw n) = some n
+idOf (GridBoard W H g) = none
 
--- "Body": W 2, H 2; planner 1, id 4, w 2, h 2, e 4, d 4; instant 4; id 4
+-- "Body": W 2, H 2; planner 1, id 4, w 2, h 2, e 4, d 4; instant 4; id 4; W 2, H 2, g 1
 unfoldable pub bodyOf : Event → List ℕ
 bodyOf (NewBoard W H) = bytesOf 2 W ++ bytesOf 2 H
 bodyOf (Submit n a) =
     bytesOf 1 n ++ bytesOf 4 (a .id) ++ bytesOf 2 (a .w) ++ bytesOf 2 (a .h) ++ bytesOf 4 (a .e) ++ bytesOf 4 (a .d)
 bodyOf (Clock i) = bytesOf 4 i
 bodyOf (Withdraw n) = bytesOf 4 n
+bodyOf (GridBoard W H g) = bytesOf 2 W ++ bytesOf 2 H ++ bytesOf 1 g
 
 -- "One byte of kind, then a body"
 unfoldable pub recordOf : Event → List ℕ
@@ -70,6 +73,10 @@ clockIn body = Clock (field 0 4 body)
 abbrev pub withdrawIn : List ℕ → Event
 withdrawIn body = Withdraw (field 0 4 body)
 
+-- document 02, Q-3: "Event kind 5 is a new board with W 2, H 2, g 1"
+abbrev pub gridBoardIn : List ℕ → Event
+gridBoardIn body = GridBoard (field 0 2 body) (field 2 2 body) (field 4 1 body)
+
 -- "a known kind with too few bytes is 15": the event and the bytes it took, where its n bytes of body are there
 unfoldable pub wholeOr15 : ℕ → ℕ → List ℕ → Event → Reading
 wholeOr15 kind n body v = cond (ltb (length body) n) (CutShort kind) (Got v (suc n))
@@ -81,7 +88,8 @@ readFrom (kind ∷ body) =
     cond (eqb kind 1) (wholeOr15 kind 4 body (newBoardIn body))
     (cond (eqb kind 2) (wholeOr15 kind 17 body (submitIn body))
     (cond (eqb kind 3) (wholeOr15 kind 4 body (clockIn body))
-    (cond (eqb kind 4) (wholeOr15 kind 4 body (withdrawIn body)) (Unknown kind))))
+    (cond (eqb kind 4) (wholeOr15 kind 4 body (withdrawIn body))
+    (cond (eqb kind 5) (wholeOr15 kind 5 body (gridBoardIn body)) (Unknown kind)))))
 
 -- THE WRITER: "puts one record at the front of a lent buffer and returns its length; too little room gives 17"
 unfoldable pub written : Event → ℕ → Written

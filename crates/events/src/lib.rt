@@ -1,8 +1,9 @@
-// Event records of document 01: one byte of kind, then a body whose length the kind fixes; numbers little-endian.
+// Event records of document 01, and kind 5 of document 02: one byte of kind, then a body whose length the kind fixes;
+// numbers little-endian.
 ghost use mathlib.Core.Path.{_≡_};
 ghost use Prim.Native.Nat.{_+_, _<_};
 ghost use lib.ListN.{length, drop};
-ghost use Rattle.events.specs.Records.{kindOf, newBoardIn, submitIn, clockIn, withdrawIn, wholeOr15, readFrom, written, writtenBuffer, submissionOf, toldRead, toldWritten};
+ghost use Rattle.events.specs.Records.{kindOf, newBoardIn, submitIn, clockIn, withdrawIn, gridBoardIn, wholeOr15, readFrom, written, writtenBuffer, submissionOf, toldRead, toldWritten};
 use tasks::Submission;
 
 // What an event of kind 2 asks for, as its body says it: its own, so that a later field of a submission changes no record.
@@ -14,12 +15,14 @@ pub struct Ask {
     pub h: u16,
 }
 
-// "an event's fields have the record's widths"
+// "an event's fields have the record's widths". A board on a grid is an event of its own, and not a new board with a
+// grid of 1 or more: so a record of kind 5 with g 1 is written again as kind 5, and one of kind 1 as kind 1.
 pub enum Event {
     NewBoard { columns: u16, rows: u16 },
     Submit { planner: u8, ask: Ask },
     Clock { instant: u32 },
     Withdraw { id: u32 },
+    GridBoard { columns: u16, rows: u16, grid: u8 },
 }
 
 // What the reader returns: the event and the bytes it took; the end; 15 and 16 with the kind byte.
@@ -85,6 +88,25 @@ fn read_withdraw(body: &[u8]) -> Reading
     Reading::Got(Event::Withdraw { id }, 5)
 }
 
+fn read_grid_board(body: &[u8]) -> Reading
+    ensures { λ r. ⌜ r ≡ wholeOr15 5 5 (now (body .entry)) (gridBoardIn (now (body .entry))) ⌝ }
+{
+    if body.len() < 5 {
+        return Reading::CutShort(5);
+    }
+    let columns = fields::field_2(body, 0);
+    let rows = fields::field_2(body, 2);
+    let grid = body[4];
+    Reading::Got(
+        Event::GridBoard {
+            columns,
+            rows,
+            grid,
+        },
+        6,
+    )
+}
+
 // The kind byte of an event.
 pub fn kind_of(event: Event) -> u8
     ensures { λ r. ⌜ r ≡ kindOf event ⌝ }
@@ -97,6 +119,11 @@ pub fn kind_of(event: Event) -> u8
         Event::Submit { planner: _, ask: _ } => 2,
         Event::Clock { instant: _ } => 3,
         Event::Withdraw { id: _ } => 4,
+        Event::GridBoard {
+            columns: _,
+            rows: _,
+            grid: _,
+        } => 5,
     }
 }
 
@@ -135,6 +162,9 @@ pub fn read_at(s: &[u8], at: usize) -> Reading
     }
     if kind == 4 {
         return read_withdraw(body);
+    }
+    if kind == 5 {
+        return read_grid_board(body);
     }
     Reading::Unknown(kind)
 }
@@ -202,6 +232,20 @@ fn write_withdraw(buffer: &mut [u8], id: u32) -> Written
     Written::Length(5)
 }
 
+fn write_grid_board(buffer: &mut [u8], columns: u16, rows: u16, grid: u8) -> Written
+    ensures { λ r. ⌜ r ≡ written (Event.GridBoard columns rows grid) (length (now (buffer .entry))) ⌝ }
+    ensures { λ _. ⌜ now (buffer .exit) ≡ writtenBuffer (Event.GridBoard columns rows grid) (now (buffer .entry)) ⌝ }
+{
+    if buffer.len() < 6 {
+        return Written::NoRoom;
+    }
+    fields::put_1(buffer, 0, 5);
+    fields::put_2(buffer, 1, columns);
+    fields::put_2(buffer, 3, rows);
+    fields::put_1(buffer, 5, grid);
+    Written::Length(6)
+}
+
 // THE WRITER: one record at the front of a lent buffer; bytes beyond it stay, and a refusal leaves every byte.
 pub fn write(buffer: &mut [u8], v: Event) -> Written
     ensures { λ r. ⌜ r ≡ written v (length (now (buffer .entry))) ⌝ }
@@ -213,5 +257,10 @@ pub fn write(buffer: &mut [u8], v: Event) -> Written
         Event::Submit { planner, ask } => write_submit(buffer, planner, ask),
         Event::Clock { instant } => write_clock(buffer, instant),
         Event::Withdraw { id } => write_withdraw(buffer, id),
+        Event::GridBoard {
+            columns,
+            rows,
+            grid,
+        } => write_grid_board(buffer, columns, rows, grid),
     }
 }

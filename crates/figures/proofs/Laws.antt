@@ -16,7 +16,7 @@ use Rattle.lists.proofs.Append.{keep-append}
 use Rattle.laxity.specs.Laxity.{laxity, classOf}
 use Rattle.sheets.specs.Sheets.{plus}
 use Rattle.events.specs.declared.Event.{Event}
-use Rattle.events.specs.declared.Event.the-variants.{NewBoard, Submit, Clock, Withdraw}
+use Rattle.events.specs.declared.Event.the-variants.{NewBoard, Submit, Clock, Withdraw, GridBoard}
 use Rattle.figures.specs.declared.Verdict.{Verdict}
 use Rattle.figures.specs.Figures.{Trial, fateOf, verdictOf, verdicts, isOf, of, came, waitedIn, figuresOf, sheetWith, sheetOf}
 use Rattle.figures.proofs.Counting.{row-length, sheet-row, sheet-foot, sheet-length}
@@ -154,6 +154,7 @@ unfolding verdictOf
 waits-until now (NewBoard W H) answer start v q = absurd (nowhere q)
 waits-until now (Clock i) answer start v q = absurd (nowhere q)
 waits-until now (Withdraw n) answer start v q = absurd (nowhere q)
+waits-until now (GridBoard W H g) answer start v q = absurd (nowhere q)
 waits-until now (Submit p a) answer start v q = pick (cases q)
   where
     soon : (b : Bool) → cond b (start - now) 0 ≤ start
@@ -184,6 +185,7 @@ few-verdicts (t ∷ ts) =
     one (Submit p a) = omega arith
     one (Clock i) = omega arith
     one (Withdraw n) = omega arith
+    one (GridBoard W H g) = omega arith
 
 -- where no start is later than m, no figure is more than m for each event, and one for it and one for each file
 pub figures-most : (m : ℕ) → 1 ≤ m → (files : ℕ) (ts : List Trial) → ((t : Trial) → t ∈ ts → t .start ≤ m)

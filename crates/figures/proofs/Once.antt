@@ -21,7 +21,7 @@ use Rattle.board.specs.Refusals.{refusal, soundBoard, refusedSubmit}
 use Rattle.tasks.specs.declared.Submission.{Submission}
 use Rattle.events.specs.declared.Ask.{Ask}
 use Rattle.events.specs.declared.Event.{Event}
-use Rattle.events.specs.declared.Event.the-variants.{NewBoard, Submit, Clock, Withdraw}
+use Rattle.events.specs.declared.Event.the-variants.{NewBoard, Submit, Clock, Withdraw, GridBoard}
 use Rattle.events.specs.Records.{submissionOf}
 use Rattle.steps.specs.declared.State.{State}
 use Rattle.session.specs.Recording.{outcome}
@@ -199,6 +199,7 @@ unfolding verdictOf
 event-classed s (NewBoard W H) v q = absurd (nowhere q)
 event-classed s (Clock i) v q = absurd (nowhere q)
 event-classed s (Withdraw n) v q = absurd (nowhere q)
+event-classed s (GridBoard W H g) v q = absurd (nowhere q)
 event-classed s (Submit n a) v q = pick (cases q)
   where
     this : Verdict
@@ -231,6 +232,7 @@ submits? (NewBoard W H) = false
 submits? (Submit n a) = true
 submits? (Clock i) = false
 submits? (Withdraw n) = false
+submits? (GridBoard W H g) = false
 
 one-verdict : (s : State) (es : List Event) → length (verdicts (trialsFrom s es)) ≡ length (keep submits? es)
 unfolding trialsFrom verdicts each keep verdictOf
@@ -239,6 +241,7 @@ one-verdict s (NewBoard W H ∷ es) = one-verdict (outcome s (NewBoard W H) .sta
 one-verdict s (Submit n a ∷ es) = ap suc (one-verdict (outcome s (Submit n a) .state) es)
 one-verdict s (Clock i ∷ es) = one-verdict (outcome s (Clock i) .state) es
 one-verdict s (Withdraw n ∷ es) = one-verdict (outcome s (Withdraw n) .state) es
+one-verdict s (GridBoard W H g ∷ es) = one-verdict (outcome s (GridBoard W H g) .state) es
 
 -- ALL CLASSES AND THE LINE WITHOUT CLASS TOGETHER ARE ALL SUBMISSIONS
 pub all-told : (files : ℕ) (s : State) (es : List Event)

@@ -8,7 +8,7 @@ use Rattle.lists.specs.Lists.{keep, each, range}
 use Rattle.laxity.specs.Laxity.{laxity, classOf}
 use Rattle.sheets.specs.Sheets.{rows}
 use Rattle.events.specs.declared.Event.{Event}
-use Rattle.events.specs.declared.Event.the-variants.{NewBoard, Submit, Clock, Withdraw}
+use Rattle.events.specs.declared.Event.the-variants.{NewBoard, Submit, Clock, Withdraw, GridBoard}
 use Rattle.steps.specs.declared.State.{State}
 use Rattle.session.specs.Recording.{outcome}
 use Rattle.figures.specs.declared.Verdict.{Verdict}
@@ -39,6 +39,7 @@ verdictOf now (Submit planner a) answer start =
     record { planner = planner; class = classOf (laxity now (a .e) (a .d)); fate = fateOf answer; waited = cond (eqb answer 0) (start - now) 0 } ∷ []
 verdictOf now (Clock i) answer start = []
 verdictOf now (Withdraw n) answer start = []
+verdictOf now (GridBoard W H g) answer start = []
 
 unfoldable pub verdicts : List Trial → List Verdict
 verdicts ts = each ts (λ t. verdictOf (t .now) (t .event) (t .answer) (t .start))

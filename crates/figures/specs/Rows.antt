@@ -7,7 +7,7 @@ use lib.Dec.{eqb}
 use lib.ListN.{length, getD, drop, set}
 use Rattle.sheets.specs.Sheets.{sheetSize}
 use Rattle.events.specs.declared.Event.{Event}
-use Rattle.events.specs.declared.Event.the-variants.{NewBoard, Submit, Clock, Withdraw}
+use Rattle.events.specs.declared.Event.the-variants.{NewBoard, Submit, Clock, Withdraw, GridBoard}
 use Rattle.events.specs.declared.Reading.{Reading}
 use Rattle.events.specs.declared.Reading.the-variants.{End, Got, CutShort, Unknown}
 use Rattle.events.specs.Records.{readFrom}
@@ -28,6 +28,7 @@ clockAfter now (NewBoard W H) answer = 0
 clockAfter now (Submit n a) answer = now
 clockAfter now (Clock i) answer = cond (eqb answer 0) i now
 clockAfter now (Withdraw n) answer = now
+clockAfter now (GridBoard W H g) answer = 0
 
 -- the next record: its event with the answer that stands in its line, the clock after it, its size
 unfoldable pub trialRead : ℕ → Reading → ℕ → ℕ → List Trial

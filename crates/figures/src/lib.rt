@@ -88,6 +88,11 @@ fn count_event(figures: &mut [u64; 83], clock: u32, event: Event, answer: u32, s
             columns: _,
             rows: _,
         } => 0,
+        Event::GridBoard {
+            columns: _,
+            rows: _,
+            grid: _,
+        } => 0,
         Event::Submit { planner, ask } => {
             count(
                 figures,

@@ -1,10 +1,10 @@
 -- A line word by word: which of the definition's cases the tests of the code come to. Assumes nothing.
 use Prim.Native.Nat.{ℕ, suc, _+_, _-_, _≤_, _<_}
 use mathlib.Core.Path.{_≡_, refl, sym, ap, _∙_}
-use mathlib.Core.Bool.{true, false}
+use mathlib.Core.Bool.{Bool, true, false, cond}
 use mathlib.Core.List.{List, [], _∷_}
 use native.Mathlib.Omega.{arith}
-use borrow.Author.Tests.{ne-eqb}
+use borrow.Author.Tests.{lt-ltb, ne-eqb}
 use lib.ListN.{length, take, getD}
 use lib.Seq.{take-take, take-length}
 use Rattle.lists.specs.Lists.{indexOf, lastOr}
@@ -15,7 +15,7 @@ use Rattle.tokens.specs.declared.Sort.the-variants.{Hash}
 use Rattle.tokens.specs.Tokens.{stopsAt, same, empty, fits, wrong, nth}
 use Rattle.lines.specs.declared.Line.{Line}
 use Rattle.lines.specs.declared.Line.the-variants.{Nothing, Says, Wrong}
-use Rattle.lines.specs.Lines.{lessReturn, bare, plannerOf, saidOr, asks, submitBehind, boardLine, submitLine, clockLine, withdrawLine, saidBy}
+use Rattle.lines.specs.Lines.{lessReturn, bare, plannerOf, saidOr, asks, submitBehind, plainLine, gridLine, boardLine, submitLine, clockLine, withdrawLine, saidBy}
 
 -- a word that is wrong, and none
 pub said-wrong : (kind n : ℕ) (event : Event) {r w : ℕ} → r ≡ w → (r ≡ 0 → ⊥) → Wrong kind (r + n) ≡ saidOr kind n w event
@@ -84,6 +84,38 @@ module _ (name : List ℕ) (ws : List (List ℕ)) where
       → Wrong 0 1 ≡ saidBy name ws
   unfolding saidBy
   said-other e n0 n1 n2 n3 = rw (e, n0, n1, n2, n3)
+
+-- A BOARD: a third word behind two right ones is its grid
+pub board-grid : (ws : List (List ℕ)) → wrong 1 (65535 ∷ 65535 ∷ []) ws ≡ 3 → gridLine ws ≡ boardLine ws
+unfolding boardLine wrong
+board-grid [] e = absurd (omega arith)
+board-grid (a ∷ []) e = on (fits 65535 a) e
+  where
+    on : (f : Bool) → _≡_ {A = ℕ} (cond f 2 1) 3 → gridLine (a ∷ []) ≡ plainLine (a ∷ [])
+    on true e = absurd (omega arith)
+    on false e = absurd (omega arith)
+board-grid (a ∷ b ∷ []) e = on (fits 65535 a) (fits 65535 b) e
+  where
+    on : (f g : Bool) → _≡_ {A = ℕ} (cond f (cond g 0 2) 1) 3 → gridLine (a ∷ b ∷ []) ≡ plainLine (a ∷ b ∷ [])
+    on true true e = absurd (omega arith)
+    on true false e = absurd (omega arith)
+    on false g e = absurd (omega arith)
+board-grid (a ∷ b ∷ c ∷ cs) e = rw (lt-ltb 2 (length (a ∷ b ∷ c ∷ cs)) (omega arith))
+
+-- where one of the first two is wrong, it is so with a third word and without
+pub board-plain : (ws : List (List ℕ)) {line : Line} → (wrong 1 (65535 ∷ 65535 ∷ []) ws ≡ 3 → ⊥) → line ≡ plainLine ws → line ≡ boardLine ws
+unfolding boardLine plainLine gridLine saidOr wrong
+board-plain [] n e = e
+board-plain (a ∷ []) n e = e
+board-plain (a ∷ b ∷ []) n e = e
+board-plain (a ∷ b ∷ c ∷ cs) {line} n e =
+    rw (lt-ltb 2 (length (a ∷ b ∷ c ∷ cs)) (omega arith)) (on (fits 65535 a) (fits 65535 b) _ _ n e)
+  where
+    on : (f g : Bool) (plain grid : Event) → (_≡_ {A = ℕ} (cond f (cond g 3 2) 1) 3 → ⊥) → line ≡ saidOr 1 1 (cond f (cond g 3 2) 1) plain
+        → line ≡ saidOr 1 1 (cond f (cond g (wrong 3 (255 ∷ []) (c ∷ cs)) 2) 1) grid
+    on true true plain grid n e = absurd (n refl)
+    on true false plain grid n e = e
+    on false g plain grid n e = e
 
 -- A SUBMISSION: its planner, then its numbers
 module _ (p : List ℕ) (ws : List (List ℕ)) where

@@ -2,11 +2,11 @@
 use Prim.Native.Nat.{ℕ, _+_, _-_}
 use mathlib.Core.Bool.{cond}
 use mathlib.Core.List.{List, [], _∷_}
-use lib.Dec.{eqb}
+use lib.Dec.{ltb, eqb}
 use lib.ListN.{length, take}
 use Rattle.lists.specs.Lists.{indexOf, lastOr}
 use Rattle.events.specs.declared.Event.{Event}
-use Rattle.events.specs.declared.Event.the-variants.{NewBoard, Submit, Clock, Withdraw}
+use Rattle.events.specs.declared.Event.the-variants.{NewBoard, Submit, Clock, Withdraw, GridBoard}
 use Rattle.text.specs.Text.{ascii, value}
 use Rattle.tokens.specs.declared.Sort.the-variants.{Hash}
 use Rattle.tokens.specs.Tokens.{stopsAt, words, firstWord, otherWords, same, empty, fits, wrong, nth}
@@ -35,8 +35,16 @@ unfoldable pub saidOr : ℕ → ℕ → ℕ → Event → Line
 saidOr kind n w event = cond (eqb w 0) (Says event) (Wrong kind (w + n))
 
 -- "board W H", "clock T", "withdraw ID": the words behind the name; "Numbers .. must fit the record's field"
+unfoldable pub plainLine : List (List ℕ) → Line
+plainLine ws = saidOr 1 1 (wrong 1 (65535 ∷ 65535 ∷ []) ws) (NewBoard (nth 0 ws) (nth 1 ws))
+
+-- "board W H G": document 02, Q-3: "Event kind 5 is a new board with W 2, H 2, g 1"
+unfoldable pub gridLine : List (List ℕ) → Line
+gridLine ws = saidOr 1 1 (wrong 1 (65535 ∷ 65535 ∷ 255 ∷ []) ws) (GridBoard (nth 0 ws) (nth 1 ws) (nth 2 ws))
+
+-- "board W H [G]": a third word is the grid
 unfoldable pub boardLine : List (List ℕ) → Line
-boardLine ws = saidOr 1 1 (wrong 1 (65535 ∷ 65535 ∷ []) ws) (NewBoard (nth 0 ws) (nth 1 ws))
+boardLine ws = cond (ltb 2 (length ws)) (gridLine ws) (plainLine ws)
 
 unfoldable pub clockLine : List (List ℕ) → Line
 clockLine ws = saidOr 3 1 (wrong 1 (4294967295 ∷ []) ws) (Clock (nth 0 ws))

@@ -3,7 +3,7 @@ ghost use mathlib.Core.Path.{_≡_};
 ghost use Prim.Native.Nat.{_≤_};
 ghost use lib.ListN.{length, take, drop};
 ghost use Rattle.tokens.specs.Tokens.{words, firstWord, otherWords};
-ghost use Rattle.lines.specs.Lines.{lessReturn, plannerOf, boardLine, clockLine, withdrawLine, submitLine, saidBy, says};
+ghost use Rattle.lines.specs.Lines.{lessReturn, plannerOf, gridLine, boardLine, clockLine, withdrawLine, submitLine, saidBy, says};
 use events::Ask;
 use events::Event;
 use tokens::Sort;
@@ -52,13 +52,37 @@ fn planner(word: &[u8]) -> u32
     256
 }
 
-// The words behind the name of each kind of line.
+// The words behind the name of each kind of line; those of a board with a third word, which is its grid.
+fn grid_line(text: &[u8], at: usize) -> Line
+    requires { ⌜ at ≤ length (now text) ⌝ }
+    ensures { λ r. ⌜ r ≡ gridLine (words (drop at (now (text .entry)))) ⌝ }
+{
+    let mosts: [u32; 3] = [65535, 65535, 255];
+    let n = tokens::read_numbers(text, at, &mosts);
+    if n.wrong != 0 {
+        return Line::Wrong {
+            kind: 1,
+            word: n.wrong + 1,
+        };
+    }
+    let values = n.values;
+    Line::Says(Event::GridBoard {
+        columns: values[0] as u16,
+        rows: values[1] as u16,
+        grid: values[2] as u8,
+    })
+}
+
+// Of two numbers the third is the wrong one exactly where W and H are right and a word stands behind them: the grid.
 fn board_line(text: &[u8], at: usize) -> Line
     requires { ⌜ at ≤ length (now text) ⌝ }
     ensures { λ r. ⌜ r ≡ boardLine (words (drop at (now (text .entry)))) ⌝ }
 {
     let mosts: [u32; 2] = [65535, 65535];
     let n = tokens::read_numbers(text, at, &mosts);
+    if n.wrong == 3 {
+        return grid_line(text, at);
+    }
     if n.wrong != 0 {
         return Line::Wrong {
             kind: 1,

@@ -36,7 +36,7 @@ pub fn put_plan(out: &mut [u8; 4096], help: bool) -> usize
     let at = text::put_bytes(
         out,
         0,
-        b"plan [--words] [FILE]\n\nReads event records from FILE, or from standard input, and writes a header and a\nline for each: event number from 1, kind, answer, column, start, finish. Kinds are\n1 new board, 2 submit, 3 clock, 4 withdraw. Column, start and finish are 0 unless\na submission is answered 0. It stops at a record that is cut short or of no known\nkind, and after 1000000000 events; standard error then says so.\n\n  --words  adds to each line the id that the event names and the answer in words\n  --help   writes this\n\nexample: ./run record tests/listing/listing.txt | ./run plan --words\n\n",
+        b"plan [--words] [FILE]\n\nReads event records from FILE, or from standard input, and writes a header and a\nline for each: event number from 1, kind, answer, column, start, finish. Kinds are\n1 new board, 2 submit, 3 clock, 4 withdraw, 5 new board on a grid. Column, start and\nfinish are 0 unless a submission is answered 0. It stops at a record that is cut short\nor of no known kind, and after 1000000000 events; standard error then says so.\n\n  --words  adds to each line the id that the event names and the answer in words\n  --help   writes this\n\nexample: ./run record tests/listing/listing.txt | ./run plan --words\n\n",
     );
     put_answers(out, at)
 }
@@ -53,7 +53,7 @@ pub fn put_record(out: &mut [u8; 4096], help: bool) -> usize
     let at = text::put_bytes(
         out,
         0,
-        b"record [FILE]\n\nReads lines of text from FILE, or from standard input, and writes an event record\nfor each:\n\n  board W H                     a new board of W columns and H rows\n  submit PLANNER ID W H E D     a task of W columns, H rows, E ticks, deadline D\n  clock T                       the clock goes to T\n  withdraw ID                   a waiting task is taken back\n\nPLANNER is reference, horizon, stuffing, full, or a number from 0 to 255. Words are\nparted by spaces or tabs; a # begins a comment; empty lines are allowed. A wrong line\nends it: standard error says which word was expected, and a byte of no kind (0) ends\nthe records, so that no reader takes them for whole.\n\n  --help   writes this\n\nexample: printf 'board 4 1\\nsubmit full 1 2 1 2 9\\n' | ./run record | ./run plan\n\n",
+        b"record [FILE]\n\nReads lines of text from FILE, or from standard input, and writes an event record\nfor each:\n\n  board W H [G]                 a new board of W columns and H rows, on a grid of G columns (1)\n  submit PLANNER ID W H E D     a task of W columns, H rows, E ticks, deadline D\n  clock T                       the clock goes to T\n  withdraw ID                   a waiting task is taken back\n\nPLANNER is reference, horizon, stuffing, full, or a number from 0 to 255. Words are\nparted by spaces or tabs; a # begins a comment; empty lines are allowed. A wrong line\nends it: standard error says which word was expected, and a byte of no kind (0) ends\nthe records, so that no reader takes them for whole.\n\n  --help   writes this\n\nexample: printf 'board 4 1\\nsubmit full 1 2 1 2 9\\n' | ./run record | ./run plan\n\n",
     );
     put_answers(out, at)
 }
@@ -74,7 +74,7 @@ pub fn put_ask(out: &mut [u8; 4096], help: bool) -> usize
     let at = text::put_bytes(
         out,
         0,
-        b"ask [--from FILE] QUESTION\n\nReads event records from FILE, or from standard input, and answers a question about\nthe board as it stands then. The first line is `answer N`; rows follow only if N is 0.\n\n  horizon                                     rows: first last release\n  busy T                                      a row: the columns held at T\n  openings W H E D [START COLUMN [MOST]]      rows: start column, after the pair\n                                              (0 0), at most MOST (1000); then more or end\n  board                                       a row W H now, then a row for each live task:\n                                              slot id w h e d column start finish phase\n  stamp T                                     as board, the phases as they are at T\n\n  --help   writes this\n\nexample: ./run record tests/listing/listing.txt | ./run ask openings 1 1 2 9\n\n",
+        b"ask [--from FILE] QUESTION\n\nReads event records from FILE, or from standard input, and answers a question about\nthe board as it stands then. The first line is `answer N`; rows follow only if N is 0.\n\n  horizon                                     rows: first last release\n  busy T                                      a row: the columns held at T\n  openings W H E D [START COLUMN [MOST]]      rows: start column, after the pair\n                                              (0 0), at most MOST (1000); then more or end\n  board                                       a row W H now, and G where the grid is not 1;\n                                              then a row for each live task:\n                                              slot id w h e d column start finish phase\n  stamp T                                     as board, the phases as they are at T\n\n  --help   writes this\n\nexample: ./run record tests/listing/listing.txt | ./run ask openings 1 1 2 9\n\n",
     );
     put_answers(out, at)
 }

@@ -10,7 +10,7 @@ use Rattle.events.specs.declared.Event.{Event}
 use Rattle.events.specs.declared.Written.{Written}
 use Rattle.events.specs.declared.Written.the-variants.{NoRoom, Length}
 use Rattle.events.specs.Records.{recordOf, bodyOf, written, writtenBuffer}
-use Rattle.events.proofs.Found.{Known, new-board, submit, clock, withdraw}
+use Rattle.events.proofs.Found.{Known, new-board, submit, clock, withdraw, grid-board}
 use Rattle.events.proofs.Calls.{has-kind}
 use Rattle.events.proofs.Writing.{room-answer, room-buffer}
 use Rattle.tokens.specs.Walks.{part}
@@ -26,6 +26,7 @@ body-short new-board = omega arith
 body-short submit = omega arith
 body-short clock = omega arith
 body-short withdraw = omega arith
+body-short grid-board = omega arith
 
 pub record-short : (v : Event) → length (recordOf v) ≤ 18
 unfolding recordOf

@@ -33,11 +33,12 @@ shownWord w = cond (ltb 40 (length w)) (map shownByte (take 40 w) ++ ascii "..")
 unfoldable pub quoted : List ℕ → List ℕ
 quoted w = cond (empty w) (ascii "the line ends") (ascii "'" ++ (shownWord w ++ ascii "'"))
 
--- what a line of each kind has at a word, counted from 1: "board W H"
+-- what a line of each kind has at a word, counted from 1: "board W H [G]"
 unfoldable pub boardWants : ℕ → List ℕ
 boardWants word =
-    cond (eqb word 2) (ascii "W, a number from 0 to 65535 (board W H)")
-    (cond (eqb word 3) (ascii "H, a number from 0 to 65535 (board W H)") (ascii "the end of the line (board W H)"))
+    cond (eqb word 2) (ascii "W, a number from 0 to 65535 (board W H [G])")
+    (cond (eqb word 3) (ascii "H, a number from 0 to 65535 (board W H [G])")
+    (cond (eqb word 4) (ascii "G, a number from 0 to 255, or the end of the line (board W H [G])") (ascii "the end of the line (board W H [G])")))
 
 -- "submit PLANNER ID W H E D"
 unfoldable pub submitWants : ℕ → List ℕ

@@ -52,12 +52,19 @@ fn put_board_wants(err: &mut [u8], at: usize, word: usize) -> usize
     ensures { λ r. ⌜ r ≤ at + 100 ⌝ }
 {
     if word == 2 {
-        return put(err, at, b"W, a number from 0 to 65535 (board W H)");
+        return put(err, at, b"W, a number from 0 to 65535 (board W H [G])");
     }
     if word == 3 {
-        return put(err, at, b"H, a number from 0 to 65535 (board W H)");
+        return put(err, at, b"H, a number from 0 to 65535 (board W H [G])");
     }
-    put(err, at, b"the end of the line (board W H)")
+    if word == 4 {
+        return put(
+            err,
+            at,
+            b"G, a number from 0 to 255, or the end of the line (board W H [G])",
+        );
+    }
+    put(err, at, b"the end of the line (board W H [G])")
 }
 
 fn put_submit_wants(err: &mut [u8], at: usize, word: usize) -> usize

@@ -46,6 +46,15 @@ fn name_of(event: Event, size: usize) -> Name
             id: id,
             size: size,
         },
+        Event::GridBoard {
+            columns: _,
+            rows: _,
+            grid: _,
+        } => Name {
+            named: false,
+            id: 0,
+            size: size,
+        },
     }
 }
 

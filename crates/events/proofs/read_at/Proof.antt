@@ -2,7 +2,7 @@
 use mathlib.Core.Path.{sym, _∙_}
 use lib.ListN.{getD}
 use Rattle.events.proofs.Told.{read-told}
-use Rattle.events.proofs.Found.{NoKind, new-board, submit, clock, withdraw, unknown, past, front, lent}
+use Rattle.events.proofs.Found.{NoKind, new-board, submit, clock, withdraw, grid-board, unknown, past, front, lent}
 use borrow.Author.Needs.{needs}
 use Rattle.events.proofs.read_at.Statement.{statement}
 use Rattle.events.proofs.read_at.Tie as tie
@@ -61,16 +61,26 @@ returns-5 c =
     let args = here .before .before .args in
     read-told (c .read-withdraw .ensures ∙ lent (args .s .now) (args .at) (here .if1 .left) withdraw (c .before .if5 .taken))
 
+read-grid-board-requires : tie.Need-read-grid-board-requires
+read-grid-board-requires c κs = search needs
+
 returns-6 : tie.Need-returns-6
 returns-6 c =
-    let here = c .before .before .before .before .before .before in
+    let here = c .before .before .before .before .before .before .before .before in
+    let args = here .before .before .args in
+    read-told (c .read-grid-board .ensures ∙ lent (args .s .now) (args .at) (here .if1 .left) grid-board (c .before .if6 .taken))
+
+returns-7 : tie.Need-returns-7
+returns-7 c =
+    let here = c .before .before .before .before .before .before .before in
     let args = here .before .before .args in
     let byte = getD (args .s .now) (args .at) 0 in
     let no-kind : NoKind byte = record {
-      not-1 = c .before .before .before .if2 .left;
-      not-2 = c .before .before .if3 .left;
-      not-3 = c .before .if4 .left;
-      not-4 = c .if5 .left;
+      not-1 = c .before .before .before .before .if2 .left;
+      not-2 = c .before .before .before .if3 .left;
+      not-3 = c .before .before .if4 .left;
+      not-4 = c .before .if5 .left;
+      not-5 = c .if6 .left;
     } in
     read-told (sym (rw (front (args .s .now) (args .at) (here .if1 .left)) (unknown byte no-kind _)))
 
@@ -92,4 +102,6 @@ read-at-spec =
     returns-4
     read-withdraw-requires
     returns-5
-    returns-6)
+    read-grid-board-requires
+    returns-6
+    returns-7)

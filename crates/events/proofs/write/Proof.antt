@@ -28,6 +28,12 @@ enum-known-v-4 c = search needs
 write-withdraw-requires : tie.Need-write-withdraw-requires
 write-withdraw-requires c κs = search needs
 
+enum-known-v-5 : tie.Need-enum-known-v-5
+enum-known-v-5 c = search needs
+
+write-grid-board-requires : tie.Need-write-grid-board-requires
+write-grid-board-requires c κs = search needs
+
 same-length : tie.Need-same-length
 same-length c = search needs
 
@@ -60,6 +66,14 @@ returns-4 c =
     let q = c .before .before .before .before .before .v4 .given .1 in
     (rw q (c .before .before .write-withdraw .ensures .0), (rw q (c .before .before .write-withdraw .ensures .1), rw q (written-told (c .before .before .write-withdraw .ensures .0))))
 
+same-length-5 : tie.Need-same-length-5
+same-length-5 c = search needs
+
+returns-5 : tie.Need-returns-5
+returns-5 c =
+    let q = c .before .before .before .before .before .v5 .given .1 in
+    (rw q (c .before .before .write-grid-board .ensures .0), (rw q (c .before .before .write-grid-board .ensures .1), rw q (written-told (c .before .before .write-grid-board .ensures .0))))
+
 pub write-spec : {M : Type 1} → statement M
 write-spec =
     tie.close
@@ -72,6 +86,8 @@ write-spec =
     write-clock-requires
     enum-known-v-4
     write-withdraw-requires
+    enum-known-v-5
+    write-grid-board-requires
     same-length
     returns
     same-length-2
@@ -79,4 +95,6 @@ write-spec =
     same-length-3
     returns-3
     same-length-4
-    returns-4)
+    returns-4
+    same-length-5
+    returns-5)

@@ -28,6 +28,9 @@ bump-requires c κs = (omega arith, omega (arith, c .before .pre .small 81))
 enum-told : tie.Need-enum-told
 enum-told c = search needs
 
+enum-told-2 : tie.Need-enum-told-2
+enum-told-2 c = search needs
+
 enum-known-event : tie.Need-enum-known-event
 enum-known-event c = search needs
 
@@ -56,8 +59,8 @@ count-requires c κs =
 enum-known-event-2 : tie.Need-enum-known-event-2
 enum-known-event-2 c = search needs
 
-enum-told-2 : tie.Need-enum-told-2
-enum-told-2 c = search needs
+enum-told-3 : tie.Need-enum-told-3
+enum-told-3 c = search needs
 
 returns : tie.Need-returns
 unfolding clockAfter verdictOf
@@ -72,6 +75,16 @@ returns c =
 returns-2 : tie.Need-returns-2
 unfolding clockAfter verdictOf
 returns-2 c =
+    let b = c .before .before in
+    let a = startOf b .args in
+    let e = c .enum-told2 .given .1 in (
+      ap (λ v. clockAfter (a .clock) v (a .answer)) (sym e),
+      event-alone (a .figures .now) (startOf b .pre .size) (b .bump .ensures) (a .clock) (a .event) (a .answer) (a .start) (ap (λ v. verdictOf (a .clock) v (a .answer) (a .start)) e),
+    )
+
+returns-3 : tie.Need-returns-3
+unfolding clockAfter verdictOf
+returns-3 c =
     let m = measuredOf (c .before) in
     let b = heardOf (m .before) in
     let a = startOf b .args in
@@ -82,9 +95,9 @@ returns-2 c =
           ∙ verdict-is _ (sym (c .before .before .before .class-of .ensures ∙ ap classOf (m .measure .ensures))) (sym (c .before .before .fate-of .ensures)) (sym (c .before .wait-of .ensures))),
     )
 
-returns-3 : tie.Need-returns-3
+returns-4 : tie.Need-returns-4
 unfolding clockAfter verdictOf
-returns-3 c =
+returns-4 c =
     let b = c .before .before .before .before in
     let a = startOf b .args in
     let e = c .before .before .event2 .given .1 in (
@@ -92,9 +105,9 @@ returns-3 c =
       event-alone (a .figures .now) (startOf b .pre .size) (b .bump .ensures) (a .clock) (a .event) (a .answer) (a .start) (ap (λ v. verdictOf (a .clock) v (a .answer) (a .start)) e),
     )
 
-returns-4 : tie.Need-returns-4
+returns-5 : tie.Need-returns-5
 unfolding clockAfter verdictOf
-returns-4 c =
+returns-5 c =
     let b = c .before .before .before .before in
     let a = startOf b .args in
     let e = c .before .before .event2 .given .1 in (
@@ -102,12 +115,12 @@ returns-4 c =
       event-alone (a .figures .now) (startOf b .pre .size) (b .bump .ensures) (a .clock) (a .event) (a .answer) (a .start) (ap (λ v. verdictOf (a .clock) v (a .answer) (a .start)) e),
     )
 
-returns-5 : tie.Need-returns-5
+returns-6 : tie.Need-returns-6
 unfolding clockAfter verdictOf
-returns-5 c =
+returns-6 c =
     let b = c .before .before in
     let a = startOf b .args in
-    let e = c .enum-told2 .given .1 in (
+    let e = c .enum-told3 .given .1 in (
       ap (λ v. clockAfter (a .clock) v (a .answer)) (sym e),
       event-alone (a .figures .now) (startOf b .pre .size) (b .bump .ensures) (a .clock) (a .event) (a .answer) (a .start) (ap (λ v. verdictOf (a .clock) v (a .answer) (a .start)) e),
     )
@@ -118,6 +131,7 @@ count-event-spec =
     (tie.spec
     bump-requires
     enum-told
+    enum-told-2
     enum-known-event
     measure-requires
     class-of-requires
@@ -125,9 +139,10 @@ count-event-spec =
     wait-of-requires
     count-requires
     enum-known-event-2
-    enum-told-2
+    enum-told-3
     returns
     returns-2
     returns-3
     returns-4
-    returns-5)
+    returns-5
+    returns-6)

@@ -13,7 +13,10 @@ thenOf1 c = c .before .before .before .before .before
 abbrev thenOf2 : tie.After-slice-known3 → tie.Then2
 thenOf2 c = c .before .before .before .before .before
 
-abbrev elseOf : tie.After-slice-known4 → tie.Else2
+abbrev thenOf3 : tie.After-slice-known4 → tie.Then3
+thenOf3 c = c .before .before .before .before .before
+
+abbrev elseOf : tie.After-slice-known5 → tie.Else3
 elseOf c = c .before .before .before .before .before
 
 slice-aggregate-put : tie.Need-slice-aggregate-put
@@ -59,7 +62,23 @@ returns-3 : tie.Need-returns-3
 unfolding boardWants
 returns-3 c =
     let p = c .before .before .put3 .ensures in
-    (rw (ne-eqb _ 2 (elseOf c .before .if1 .left), ne-eqb _ 3 (elseOf c .if2 .left)) (p .0), omega (arith, p .1))
+    (rw (thenOf3 c .if3 .taken) (p .0), omega (arith, p .1))
+
+slice-aggregate-put-4 : tie.Need-slice-aggregate-put-4
+slice-aggregate-put-4 c = search needs
+
+put-requires-4 : tie.Need-put-requires-4
+put-requires-4 c κs = search needs
+
+same-length-4 : tie.Need-same-length-4
+same-length-4 c = search needs
+
+returns-4 : tie.Need-returns-4
+unfolding boardWants
+returns-4 c =
+    let p = c .before .before .put4 .ensures in
+    let e = elseOf c in
+    (rw (ne-eqb _ 2 (e .before .before .if1 .left), ne-eqb _ 3 (e .before .if2 .left), ne-eqb _ 4 (e .if3 .left)) (p .0), omega (arith, p .1))
 
 pub put-board-wants-spec : {M : Type 1} → statement M
 put-board-wants-spec =
@@ -76,4 +95,8 @@ put-board-wants-spec =
     slice-aggregate-put-3
     put-requires-3
     same-length-3
-    returns-3)
+    returns-3
+    slice-aggregate-put-4
+    put-requires-4
+    same-length-4
+    returns-4)

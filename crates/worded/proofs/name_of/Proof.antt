@@ -18,6 +18,9 @@ enum-told-2 c = search needs
 enum-known-event-2 : tie.Need-enum-known-event-2
 enum-known-event-2 c = search needs
 
+enum-told-3 : tie.Need-enum-told-3
+enum-told-3 c = search needs
+
 returns : tie.Need-returns
 unfolding idIn idOf
 returns c = (ap idOf (sym (c .enum-told .given .1)), refl)
@@ -34,6 +37,10 @@ returns-4 : tie.Need-returns-4
 unfolding idIn idOf
 returns-4 c = (ap idOf (sym (c .before .event2 .given .1)), refl)
 
+returns-5 : tie.Need-returns-5
+unfolding idIn idOf
+returns-5 c = (ap idOf (sym (c .enum-told3 .given .1)), refl)
+
 pub name-of-spec : {M : Type 1} → statement M
 name-of-spec =
     tie.close
@@ -42,7 +49,9 @@ name-of-spec =
     enum-known-event
     enum-told-2
     enum-known-event-2
+    enum-told-3
     returns
     returns-2
     returns-3
-    returns-4)
+    returns-4
+    returns-5)
