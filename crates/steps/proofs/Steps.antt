@@ -41,12 +41,12 @@ use Rattle.board.proofs.Kept.{SoundBoard, submitted-sound, clocked-done, withdr
 use Rattle.board.proofs.Tested.{clocked-unsound, clocked-refused, slot-begun, withdrawn-unsound, withdrawn-refused, withdrawn-known, withdrawn-freed}
 use Rattle.board.proofs.Submit.{submit-unsound}
 use Rattle.board.proofs.Placed.{BooksAt, placed-books, unplaced-same}
-use Rattle.events.specs.declared.Event.the-variants.{NewBoard, Clock, Withdraw}
+use Rattle.events.specs.declared.Event.the-variants.{Clock, Withdraw}
 use Rattle.steps.specs.declared.Brief.{Brief}
 use Rattle.steps.specs.declared.Change.{Change}
 use Rattle.steps.specs.declared.Change.the-variants.{Nothing, Booked, Freed, Cleared}
 use Rattle.steps.specs.declared.Done.{Done}
-use Rattle.steps.specs.Outcomes.{withBoard, Outcome, submitOutcome, outcome}
+use Rattle.steps.specs.Outcomes.{withBoard, Outcome, boardOutcome, submitOutcome, outcome}
 use Rattle.steps.specs.Standing.{stateOf, Keeps, Follows, asBooked, changed}
 
 -- a number without a place
@@ -80,13 +80,13 @@ unfolding told
 told-refused n = refl
 
 -- a new board, and the board of zeros
-pub created-done : (W H : ℕ) → deviceFits (device W H) ≡ true → created W H ≡ record { number = 0; board = freshBoard (device W H) }
+pub created-done : (W H g : ℕ) → deviceFits (device W H g) ≡ true → created W H g ≡ record { number = 0; board = freshBoard (device W H g) }
 unfolding created refusedCreate orRefused
-created-done W H e = rw (passed-over 2 (not (deviceFits (device W H))) [] (ap not e)) (unfold refusal in refl)
+created-done W H g e = rw (passed-over 2 (not (deviceFits (device W H g))) [] (ap not e)) (unfold refusal in refl)
 
-pub created-not : (W H : ℕ) → deviceFits (device W H) ≡ false → created W H ≡ record { number = 2; board = zeroBoard }
+pub created-not : (W H g : ℕ) → deviceFits (device W H g) ≡ false → created W H g ≡ record { number = 2; board = zeroBoard }
 unfolding created refusedCreate orRefused
-created-not W H e = rw (refused-by 2 (not (deviceFits (device W H))) [] (ap not e))
+created-not W H g e = rw (refused-by 2 (not (deviceFits (device W H g))) [] (ap not e))
 
 module _ (d : Brief) (ks : List Task) {rows masks : List ℕ} (k : Keeps d ks rows masks) where
   abbrev b : Board
@@ -397,21 +397,21 @@ module _ (d : Brief) (ks : List Task) {rows masks : List ℕ} (k : Keeps d ks ro
       })
 
   -- A NEW BOARD, and the board of zeros
-  pub step-new : (W H : ℕ) → deviceFits (device W H) ≡ true → Follows d ks (outcome (stateOf ks d) (NewBoard W H)) (numbered 0 (emptied (device W H) true) Cleared) rows masks
-  unfolding outcome freshBoard
-  step-new W H fits =
-      step-empty 0 D true (outcome (stateOf ks d) (NewBoard W H)) (ap (λ x. record { answer = bare (x .number); state = withBoard (stateOf ks d) (x .board) }) (created-done W H fits))
+  pub step-new : (W H g : ℕ) → deviceFits (device W H g) ≡ true → Follows d ks (boardOutcome (stateOf ks d) W H g) (numbered 0 (emptied (device W H g) true) Cleared) rows masks
+  unfolding freshBoard
+  step-new W H g fits =
+      step-empty 0 D true (boardOutcome (stateOf ks d) W H g) (ap (λ x. record { answer = bare (x .number); state = withBoard (stateOf ks d) (x .board) }) (created-done W H g fits))
       (is-true (sound D 0 (replicate 64 freeSlot)) (sound-in D 0 (replicate 64 freeSlot) fresh)) (sym (aged-now D 0 (replicate 64 freeSlot) fresh))
     where
       D : Device
-      D = device W H
+      D = device W H g
 
       fresh : Sound D 0 (replicate 64 freeSlot)
-      fresh = subst (λ x. SoundBoard (x .board)) (created-done W H fits) (created-sound W H (rw fits tt))
+      fresh = subst (λ x. SoundBoard (x .board)) (created-done W H g fits) (created-sound W H g (rw fits tt))
 
-  pub step-zero : (W H : ℕ) → deviceFits (device W H) ≡ false
-      → Follows d ks (outcome (stateOf ks d) (NewBoard W H)) (numbered 2 (emptied (device 0 0) false) Cleared) rows masks
-  unfolding outcome freshBoard
-  step-zero W H fits =
-      step-empty 2 (device 0 0) false (outcome (stateOf ks d) (NewBoard W H))
-      (ap (λ x. record { answer = bare (x .number); state = withBoard (stateOf ks d) (x .board) }) (created-not W H fits)) zero-unsound refl
+  pub step-zero : (W H g : ℕ) → deviceFits (device W H g) ≡ false
+      → Follows d ks (boardOutcome (stateOf ks d) W H g) (numbered 2 (emptied (device 0 0 0) false) Cleared) rows masks
+  unfolding freshBoard
+  step-zero W H g fits =
+      step-empty 2 (device 0 0 0) false (boardOutcome (stateOf ks d) W H g)
+      (ap (λ x. record { answer = bare (x .number); state = withBoard (stateOf ks d) (x .board) }) (created-not W H g fits)) zero-unsound refl

@@ -3,9 +3,9 @@
 ghost use mathlib.Core.Path.{_≡_};
 ghost use mathlib.Core.List.{List};
 ghost use Rattle.tasks.specs.declared.Task.{Task};
-ghost use Rattle.events.specs.declared.Event.the-variants.{NewBoard, Clock, Withdraw};
+ghost use Rattle.events.specs.declared.Event.the-variants.{Clock, Withdraw};
 ghost use Rattle.steps.specs.declared.Change.the-variants.{Cleared};
-ghost use Rattle.steps.specs.Outcomes.{firstState, submitOutcome, outcome};
+ghost use Rattle.steps.specs.Outcomes.{firstState, boardOutcome, submitOutcome, outcome};
 ghost use Rattle.steps.specs.Standing.{stateOf, Keeps, Has, Follows};
 use board::Answer;
 use board::Board;
@@ -88,14 +88,22 @@ fn empty(number: u8, on: Device, sound: bool) -> Done
     )
 }
 
-// A new board; 2 and the board of zeros where W or H is out of range.
-fn new_board<'a>(live: &'a Live, masks: &'a Masks, d: Brief, columns: u16, rows: u16) -> Done
+// A new board on a grid; 2 and the board of zeros where W, H or the grid is out of range, or W no multiple of the grid.
+fn new_board<'a>(
+    live: &'a Live,
+    masks: &'a Masks,
+    d: Brief,
+    columns: u16,
+    rows: u16,
+    grid: u8,
+) -> Done
     requires { ⌜ Has d (now live) (now masks) ⌝ }
-    ensures { λ r. ⌜ ((ks : List Task) → Keeps d ks (now (live .entry)) (now (masks .entry)) → Follows d ks (outcome (stateOf ks d) (NewBoard columns rows)) r (now (live .entry)) (now (masks .entry))) ⌝ }
+    ensures { λ r. ⌜ ((ks : List Task) → Keeps d ks (now (live .entry)) (now (masks .entry)) → Follows d ks (boardOutcome (stateOf ks d) columns rows grid) r (now (live .entry)) (now (masks .entry))) ⌝ }
 {
     let on = Device {
         columns: columns,
         rows: rows,
+        grid: grid,
     };
     if tasks::device_fits(on) {
         return empty(0, on, true);
@@ -105,6 +113,7 @@ fn new_board<'a>(live: &'a Live, masks: &'a Masks, d: Brief, columns: u16, rows:
         Device {
             columns: 0,
             rows: 0,
+            grid: 0,
         },
         false,
     )
@@ -224,11 +233,16 @@ pub fn answered<'a>(live: &'a mut Live, masks: &'a mut Masks, d: Brief, event: E
     ensures { λ r. ⌜ ((ks : List Task) → Keeps d ks (now (live .entry)) (now (masks .entry)) → Follows d ks (outcome (stateOf ks d) event) r (now (live .exit)) (now (masks .exit))) ⌝ }
 {
     match event {
-        Event::NewBoard { columns, rows } => new_board(live, masks, d, columns, rows),
+        Event::NewBoard { columns, rows } => new_board(live, masks, d, columns, rows, 1),
         Event::Submit { planner, ask } => {
             submit(live, masks, d, planner, events::submission_of(ask))
         }
         Event::Clock { instant } => clock(live, masks, d, instant),
         Event::Withdraw { id } => withdraw(live, masks, d, id),
+        Event::GridBoard {
+            columns,
+            rows,
+            grid,
+        } => new_board(live, masks, d, columns, rows, grid),
     }
 }

@@ -31,7 +31,14 @@ enum-known-event-4 c = search needs
 withdraw-requires : tie.Need-withdraw-requires
 withdraw-requires c κs = search needs
 
+enum-known-event-5 : tie.Need-enum-known-event-5
+enum-known-event-5 c = search needs
+
+new-board-requires-2 : tie.Need-new-board-requires-2
+new-board-requires-2 c κs = search needs
+
 returns : tie.Need-returns
+unfolding outcome
 returns c = λ ks k. rw (c .before .before .before .before .event .given .1) (c .new-board .ensures ks k)
 
 returns-2 : tie.Need-returns-2
@@ -46,6 +53,10 @@ returns-3 c = λ ks k. rw (c .before .before .before .before .event3 .given .1) 
 returns-4 : tie.Need-returns-4
 returns-4 c = λ ks k. rw (c .before .before .before .before .event4 .given .1) (c .withdraw .ensures ks k)
 
+returns-5 : tie.Need-returns-5
+unfolding outcome
+returns-5 c = λ ks k. rw (c .before .before .before .before .event5 .given .1) (c .new-board2 .ensures ks k)
+
 pub answered-spec : {M : Type 1} → statement M
 answered-spec =
     tie.close
@@ -59,7 +70,10 @@ answered-spec =
     clock-requires
     enum-known-event-4
     withdraw-requires
+    enum-known-event-5
+    new-board-requires-2
     returns
     returns-2
     returns-3
-    returns-4)
+    returns-4
+    returns-5)

@@ -9,7 +9,7 @@ new-requires : tie.Need-new-requires
 new-requires c κs = search needs
 
 returns : tie.Need-returns
-returns c = ap (λ x. record { board = x .board }) (c .before .new .ensures ∙ created-not 0 0 refl)
+returns c = ap (λ x. record { board = x .board }) (c .before .new .ensures ∙ created-not 0 0 1 refl)
 
 pub first-state-spec : {M : Type 1} → statement M
 first-state-spec = tie.close (tie.spec new-requires returns)

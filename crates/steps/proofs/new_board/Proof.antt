@@ -15,7 +15,7 @@ returns : tie.Need-returns
 returns c = λ ks k.
     let f = c .before .before in
     let a = f .before .args in
-    rw (c .empty .ensures) (step-new (a .d) ks k (a .columns) (a .rows) (sym (f .device-fits .ensures) ∙ c .before .if1 .taken))
+    rw (c .empty .ensures) (step-new (a .d) ks k (a .columns) (a .rows) (a .grid) (sym (f .device-fits .ensures) ∙ c .before .if1 .taken))
 
 empty-requires-2 : tie.Need-empty-requires-2
 empty-requires-2 c κs = search needs
@@ -24,7 +24,7 @@ returns-2 : tie.Need-returns-2
 returns-2 c = λ ks k.
     let f = c .before .before in
     let a = f .before .args in
-    rw (c .empty2 .ensures) (step-zero (a .d) ks k (a .columns) (a .rows) (sym (f .device-fits .ensures) ∙ c .before .if1 .left))
+    rw (c .empty2 .ensures) (step-zero (a .d) ks k (a .columns) (a .rows) (a .grid) (sym (f .device-fits .ensures) ∙ c .before .if1 .left))
 
 pub new-board-spec : {M : Type 1} → statement M
 new-board-spec =

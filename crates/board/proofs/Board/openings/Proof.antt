@@ -33,6 +33,9 @@ cast-t17 c = search needs
 cast-t18 : tie.Need-cast-t18
 cast-t18 c = search needs
 
+cast-list : tie.Need-cast-list
+cast-list c = search needs
+
 list-requires : tie.Need-list-requires
 list-requires c κs =
     let n = c .before .before .before .before .before .before .before in
@@ -66,6 +69,7 @@ openings-spec =
     returns-2
     cast-t17
     cast-t18
+    cast-list
     list-requires
     same-length
     returns-3)
