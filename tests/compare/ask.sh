@@ -13,8 +13,9 @@
 # What is printed must be equal, and so must the message on a recording that ends in 15 or 16; after a wrong question both
 # print nothing, and something on standard error. Numbers are drawn about the board's own: its sizes, its clock, the starts and
 # finishes of its tasks, and the edges of every range; deadlines of openings also at the limit of laxity (10,000,000, Q-2), beside
-# it and far beyond, and pairs to start after at the end of the window. Ends with 0 if all is equal; with 1 at the first difference,
-# and keeps the recording and both outputs in the temporary folder that it names; with 2 for a wrong call.
+# it and far beyond, and pairs to start after at the end of the window. Where the board has a grid (Q-3), two questions in three are
+# openings, most of them of whole steps, after pairs on the grid and off it. Ends with 0 if all is equal; with 1 at the first
+# difference, and keeps the recording and both outputs in the temporary folder that it names; with 2 for a wrong call.
 set -u
 here=$(cd "$(dirname "$0")" && pwd -P)
 fail() { echo "ask.sh: $*" >&2; exit 2; }
@@ -50,8 +51,8 @@ instant() {
 
 # what is asked, in `words`
 question() {
-    local w h e d limit after
-    case $((RANDOM % 10)) in
+    local w h e d limit after column steps=$((W / G))
+    case $((G > 1 && RANDOM % 2 ? 6 : RANDOM % 10)) in
         0) words=(horizon) ;;
         1) words=(board) ;;
         2 | 3) words=(busy "$(instant)") ;;
@@ -63,6 +64,13 @@ question() {
             w=$(one_of 1 1 2 3 "$W" $((W + 1)) 0 65535 $((1 + RANDOM % (W + 1))))
             h=$(one_of 1 1 1 1 "$H" $((H + 1)) 0)
             e=$(one_of 1 2 7 100 $((1 + RANDOM % 40)) 1000000 1000001 0)
+            if [ "$G" -gt 1 ]; then # mostly whole steps, and the rest in range; or a width beside a number of steps
+                case $((RANDOM % 8)) in
+                    0) w=$(one_of $((G + 1)) $((W - 1)) $((G * (1 + RANDOM % steps) - 1)) $((W + G))) ;;
+                    1) ;;
+                    *) w=$((G * (RANDOM % 2 ? 1 : 1 + RANDOM % steps))) h=$(one_of 1 "$H") e=$(one_of 1 2 7 100 $((1 + RANDOM % 40)) 1000000) ;;
+                esac
+            fi
             limit=$((now + e + 10000000))
             if [ $((RANDOM % 2)) -eq 0 ]; then # about the limit of laxity, or up to it as far as there are deadlines
                 d=$(one_of "$limit" "$limit" $((limit - 1)) $((limit + 1)) $((limit + 1)) $((limit + 2 + RANDOM)) $((limit - RANDOM)) $((limit + RANDOM * 50000)) $((limit < 2000000000 ? limit : 2000000000)))
@@ -73,7 +81,12 @@ question() {
             words=(openings "$w" "$h" "$e" "$d")
             after=$(instant)
             if [ $((RANDOM % 4)) -eq 0 ]; then after=$((d - e - 1 + RANDOM % 3)); after=$((after < 0 || after > 4294967295 ? 0 : after)); fi # about the last start
-            [ $((RANDOM % 3)) -eq 0 ] || words+=("$after" "$(one_of 0 1 "$W" 65535 $((RANDOM % (W + 2))))")
+            column=$(one_of 0 1 "$W" 65535 $((RANDOM % (W + 2))))
+            if [ "$G" -gt 1 ] && [ $((RANDOM % 4)) -ne 0 ]; then # where a step begins, in its last column, or anywhere; early in the window
+                column=$(one_of $((1 + G * (RANDOM % steps))) $((1 + G * (RANDOM % steps))) $((G * (1 + RANDOM % steps))) $((1 + RANDOM % W)))
+                if [ $((RANDOM % 2)) -eq 0 ] && [ $((d - e)) -ge "$now" ]; then after=$((now + $(below $((d - e - now < 60 ? d - e - now + 1 : 60))))); fi
+            fi
+            [ $((RANDOM % 3)) -eq 0 ] || words+=("$after" "$column")
             [ ${#words[@]} -eq 5 ] || [ $((RANDOM % 3)) -eq 0 ] || words+=("$(one_of 0 1 2 $((RANDOM % 20)) 2976 2977 5952 $((RANDOM % 9000)))")
             ;;
     esac
@@ -83,19 +96,20 @@ wrong=("" "x" "horizon 1" "Horizon" "board 0" "busy" "busy 4294967296" "busy -1"
 
 ${RUN:-} "$ask" </dev/null >"$work/got" 2>"$work/got.err"
 [ ! -s "$work/got" ] && grep -q '^usage: ask' "$work/got.err" || { echo "differs: no usage where there is no argument" >&2; exit 1; }
-asked=0 refused=0 lax=0 unanswered=0 wrongs=0 rows=0
-profiles=(tiny paper wide crowded late bounds lax cut mixed)
+asked=0 refused=0 lax=0 unanswered=0 wrongs=0 rows=0 stepped=0 off=0
+profiles=(tiny paper wide crowded late bounds lax grid cut mixed)
 for ((r = 0; r < recordings; r++)); do
     profile=${profiles[$((r % ${#profiles[@]}))]}
     "$work/generate" "$profile" $((seed + r)) $((1 + RANDOM % 300)) >"$work/recording" || fail "the generator failed"
-    # of some recordings the last bytes are left out, of some a byte of no kind is put behind them
+    # of some recordings the last bytes are left out, behind some is put a byte of no kind, or a kind 5 without its body
     case $((RANDOM % 12)) in
         0) size=$(wc -c <"$work/recording"); [ "$size" -lt 6 ] || truncate -s $((size - 1 - RANDOM % 5)) "$work/recording" ;;
-        1) printf "\\x$(printf %02x "$(one_of 0 5 9 255)")" >>"$work/recording" ;;
+        1) printf "\\x$(printf %02x "$(one_of 0 5 6 9 255)")" >>"$work/recording" ;;
     esac
-    W=1 H=1 now=0 times="0 1 7"
+    W=1 H=1 now=0 G=1 times="0 1 7"
     if "$work/second" board <"$work/recording" >"$work/board" 2>/dev/null && { read -r _ n && [ "$n" = 0 ]; } <"$work/board"; then
-        read -r W H now < <(sed -n 2p "$work/board")
+        read -r W H now G < <(sed -n 2p "$work/board")
+        G=${G:-1} # a grid of 1 is not told
         times="$now $(sed 1,2d "$work/board" | cut -d' ' -f8,9 | tr '\n' ' ')"
     fi
     for ((q = 0; q < questions; q++)); do
@@ -129,7 +143,11 @@ for ((r = 0; r < recordings; r++)); do
             [ "$n" = 0 ] || refused=$((refused + 1))
             [ "$n" != 18 ] || lax=$((lax + 1))
             rows=$((rows + $(wc -l <"$work/want") - 1))
+            if [ "$G" -gt 1 ] && [ "${words[0]}" = openings ]; then
+                [ "$n" != 0 ] || stepped=$((stepped + 1))
+                [ "$n" != 5 ] || off=$((off + 1))
+            fi
         fi
     done
 done
-echo "$recordings recordings, $asked questions, all equal: $rows rows, $refused refusals ($lax of them 18), $unanswered not answered (15 or 16), $wrongs wrong questions; seed $seed"
+echo "$recordings recordings, $asked questions, all equal: $rows rows, $refused refusals ($lax of them 18), $unanswered not answered (15 or 16), $wrongs wrong questions; on boards with a grid $stepped lists of openings and $off refusals 5; seed $seed"

@@ -2,10 +2,10 @@
 # compare.sh: compares a program `plan` with the second program on fresh random recordings, byte for byte.
 #
 #   compare.sh PLAN-PROGRAM [EVENTS [UNTIL [PROFILE...]]]
-#     PLAN-PROGRAM  reads a recording on standard input and prints the lines of document 01 (with 18 of Q-2, document 02)
+#     PLAN-PROGRAM  reads a recording on standard input and prints the lines of document 01 (with 18 of Q-2 and the grid of Q-3)
 #     EVENTS        events in a recording (default 100000; recordings of the profile cut are short and many)
 #     UNTIL         how much: a number of events over all profiles (default 2000000), or a time as 600s, or `ever`
-#     PROFILE...    of: tiny paper wide crowded late bounds lax cut mixed (default: all)
+#     PROFILE...    of: tiny paper wide crowded late bounds lax grid cut mixed (default: all)
 #   environment:
 #     SEED=N        first seed (default: from the clock); the same arguments and seed make the same recordings
 #     RUN=COMMAND   put before PLAN-PROGRAM, as RUN=qemu-x86_64
@@ -23,8 +23,8 @@ fail() { echo "compare.sh: $*" >&2; exit 2; }
 plan=$1 events=${2:-100000} until=${3:-2000000}
 shift; [ $# -gt 0 ] && shift; [ $# -gt 0 ] && shift
 profiles=("$@")
-[ ${#profiles[@]} -gt 0 ] || profiles=(tiny paper wide crowded late bounds lax cut mixed)
-for p in "${profiles[@]}"; do case $p in tiny | paper | wide | crowded | late | bounds | lax | cut | mixed) ;; *) fail "no profile $p" ;; esac; done
+[ ${#profiles[@]} -gt 0 ] || profiles=(tiny paper wide crowded late bounds lax grid cut mixed)
+for p in "${profiles[@]}"; do case $p in tiny | paper | wide | crowded | late | bounds | lax | grid | cut | mixed) ;; *) fail "no profile $p" ;; esac; done
 case $plan in */*) ;; *) [ -f "$plan" ] && plan=./$plan ;; esac
 [ -n "${RUN:-}" ] || command -v "$plan" >/dev/null || fail "cannot run $plan"
 [ -z "${RUN:-}" ] || [ -f "$plan" ] || fail "no file $plan"

@@ -1,7 +1,7 @@
 //! edges: a fixed recording (event records on standard output): the edges of every number range of document 01, its cases 10, 11
 //! and 12, the limit of laxity of request Q-2 (document 02), and every set of refusals that one submission can have at once, on the
-//! board of zeros, on a board with one task and on one with 64. `crates/plan/stdin` begins with it; `second` says what `plan` has to
-//! print.
+//! board of zeros, on a board with one task and on one with 64; then the grids of request Q-3, and these sets again where a width is
+//! off the grid. `crates/plan/stdin` begins with it; `second` says what `plan` has to print.
 //! Build: `rustc -O --edition 2021 tests/compare/edges.rs -o edges` (std only).
 
 use std::io::Write;
@@ -13,6 +13,12 @@ impl Tape {
         self.0.push(1);
         self.0.extend(w.to_le_bytes());
         self.0.extend(h.to_le_bytes());
+    }
+    fn grid(&mut self, w: u16, h: u16, g: u8) {
+        self.0.push(5);
+        self.0.extend(w.to_le_bytes());
+        self.0.extend(h.to_le_bytes());
+        self.0.push(g);
     }
     fn submit(&mut self, planner: u8, id: u32, w: u16, h: u16, e: u32, d: u32) {
         self.0.push(2);
@@ -36,6 +42,9 @@ impl Tape {
 const LAST: u32 = 2_000_000_000;
 /// The largest laxity that passes.
 const LAX: u32 = 10_000_000;
+/// Table 1 of the source: a, e, d, w, h, on 10 x 6.
+const TABLE_1: [(u32, u32, u32, u16, u16); 7] =
+    [(0, 20, 30, 3, 3), (0, 3, 10, 7, 5), (1, 12, 15, 3, 5), (1, 3, 10, 2, 2), (2, 2, 10, 3, 4), (2, 3, 20, 5, 1), (3, 2, 20, 3, 2)];
 
 /// W and H at and beside their limits, each with a call that needs a sound board.
 fn devices(t: &mut Tape) {
@@ -146,18 +155,22 @@ fn case_10(t: &mut Tape) {
     }
 }
 
-/// 64 tasks side by side on 256 columns; the first ends sooner.
-fn crowd(t: &mut Tape, planner: u8) {
-    t.board(256, 4);
+/// 64 tasks side by side on 256 columns, by kind 1 or in steps of four; the first ends sooner.
+fn crowd(t: &mut Tape, planner: u8, steps: bool) {
+    if steps {
+        t.grid(256, 4, 4);
+    } else {
+        t.board(256, 4);
+    }
     for id in 1..=64 {
         t.submit(planner, id, 4, 1, if id == 1 { 50 } else { 100 }, 500);
     }
 }
 
 /// Case 11: 64 live; the next gives 9 even where no place exists; after one ends its slot is taken.
-fn case_11(t: &mut Tape) {
+fn case_11(t: &mut Tape, steps: bool) {
     for planner in 0..4 {
-        crowd(t, planner);
+        crowd(t, planner, steps);
         t.submit(planner, 65, 4, 1, 10, 500);
         t.submit(planner, 66, 4, 1, 10, 20);
         // and too lax gives 18, too late 8, a live id 7
@@ -211,8 +224,8 @@ fn withdrawals(t: &mut Tape) {
 }
 
 /// Every set of the refusals 3 to 8 and 18 at once, on the board as it stands: the one that is tested first has to win (3 to 8 in
-/// rising order, then 18), over 9 and 10 too.
-fn sets(t: &mut Tape) {
+/// rising order, then 18), over 9 and 10 too. `good` is a width of the board, `bad` one that it refuses.
+fn sets(t: &mut Tape, good: u16, bad: u16) {
     for set in 0..128u32 {
         let has = |bit: u32| set >> bit & 1 == 1;
         if has(1) && has(4) || has(5) && has(6) {
@@ -220,11 +233,132 @@ fn sets(t: &mut Tape) {
         }
         let planner = if has(0) { 4 } else { (set % 4) as u8 };
         let id = if has(1) { 0 } else if has(4) { 2 } else { 1000 + set };
-        let w = if has(2) { 0 } else { 255 };
+        let w = if has(2) { bad } else { good };
         let e = if has(3) { 1_000_001 } else { 100 };
         // now is 20, or 0 on the board of zeros
         let d = if has(5) { 10 } else if has(6) { 20 + e + LAX + 1 } else if has(3) { 1_500_000 } else { 130 };
         t.submit(planner, id, w, 1, e, d);
+    }
+}
+
+/// Which grids there are: g from 0 to 18, and the last number that its byte holds, with W 240, which is a multiple of eleven of
+/// the sixteen. On each a task of one step, one of a column more and less, one of all columns, and kind 1 after it; then the last
+/// W that is a multiple.
+fn grids(t: &mut Tape) {
+    for g in (0..=18).chain([32, 255]) {
+        let (planner, step) = (g % 4, g as u16);
+        t.grid(240, 1, g);
+        for w in [step, step + 1, step.saturating_sub(1), 2 * step, 240, 240u16.saturating_sub(step), 241] {
+            t.submit(planner, 1 + w as u32, w, 1, 2, 30);
+        }
+        t.clock(1);
+        t.withdraw(241);
+        t.board(240, 1);
+        t.submit(planner, 1, step + 1, 1, 2, 30);
+        let last = 256 - 256 % step.max(1);
+        t.grid(last, 1, g);
+        for w in [step, last - step.min(last), last, last + step] {
+            t.submit(planner, 1 + w as u32, w, 1, 2, 30);
+        }
+    }
+}
+
+/// W, H and g at and beside their limits; 0 and 272 are multiples of 16, and no W. A refused one leaves the board of zeros, on which
+/// all is answered 1, whatever there was before.
+fn grid_devices(t: &mut Tape) {
+    for w in [0, 1, 2, 15, 16, 17, 255, 256, 257, 272, u16::MAX] {
+        for h in [0, 1, 1024, 1025, u16::MAX] {
+            for g in [0, 1, 2, 15, 16, 17, u8::MAX] {
+                t.grid(w, h, g);
+                t.submit(3, 1, 16, 1, 1, 10);
+                t.clock(1);
+                t.withdraw(1);
+            }
+        }
+    }
+    for (w, g) in [(10, 4), (8, 0), (8, 17), (17, 17), (8, 16), (0, 4)] {
+        t.grid(8, 1, 4);
+        t.submit(2, 1, 4, 1, 9, 20);
+        t.clock(3);
+        t.grid(w, 1, g);
+        for planner in 0..5 {
+            t.submit(planner, 2, 4, 1, 9, 20);
+        }
+        t.clock(3);
+        t.withdraw(1);
+    }
+}
+
+/// 8 columns in steps of four: w 4, e 1, d 3 has two places at each of three starts; no width but 4 and 8 is one.
+fn eight_by_four(t: &mut Tape) {
+    for planner in 0..4 {
+        t.grid(8, 1, 4);
+        for id in 1..=7 {
+            t.submit(planner, id, 4, 1, 1, 3);
+        }
+        t.clock(1);
+        for w in [0, 1, 2, 3, 5, 6, 7, 8, 9, 12, u16::MAX] {
+            t.submit(planner, 20 + w as u32, w, 1, 1, 30);
+        }
+    }
+}
+
+/// The finest and the coarsest: grid 16 on 256 columns and on 16, grid 1 by kind 5; and one board after the other, as each has its
+/// own grid.
+fn coarse_and_fine(t: &mut Tape) {
+    for planner in 0..4 {
+        t.grid(256, 1024, 16);
+        for id in 1..=17 {
+            t.submit(planner, id, 16, 1024, 5, 40);
+        }
+        for w in [1, 8, 15, 17, 24, 32, 240, 255, 256] {
+            t.submit(planner, 100 + w as u32, w, 1, 5, 40);
+        }
+        t.clock(5);
+        t.submit(planner, 400, 240, 1, 5, 400);
+        t.grid(16, 1, 16);
+        for w in [1, 4, 8, 15, 16, 16, 32] {
+            t.submit(planner, 1 + w as u32, w, 1, 3, 30);
+            t.submit(planner, 100 + w as u32, w, 1, 3, 30);
+        }
+        t.grid(10, 6, 1);
+        for w in [1, 3, 2, 5, 10, 11, 0] {
+            t.submit(planner, 1 + w as u32, w, 1, 3, 30);
+        }
+        t.board(10, 6);
+        t.submit(planner, 1, 3, 1, 3, 30);
+        t.grid(10, 6, 5);
+        t.submit(planner, 1, 3, 1, 3, 30);
+        t.submit(planner, 1, 5, 1, 3, 30);
+        t.board(10, 6);
+        t.submit(planner, 1, 3, 1, 3, 30);
+    }
+}
+
+/// Cases 1 to 3 and 6 to 8 of document 01 with a step for each column.
+fn cases_in_steps(t: &mut Tape) {
+    for g in [1, 2, 3, 4, 16] {
+        for planner in 0..4 {
+            // Table 1 of the source
+            t.grid(10 * g, 6, g as u8);
+            for (id, (a, e, d, w, h)) in (1..).zip(TABLE_1) {
+                t.clock(a);
+                t.submit(planner, id, w * g, h, e, d);
+            }
+            // case 6, and 7
+            t.grid(4 * g, 1, g as u8);
+            t.submit(2, 1, 2 * g, 1, 2, 9);
+            t.submit(2, 2, 3 * g, 1, 4, 9);
+            t.submit(planner, 3, g, 1, 5, 5);
+            t.withdraw(2);
+            t.submit(planner, 4, g, 1, 5, 5);
+            // case 8: two runs of two steps tie
+            t.grid(5 * g, 1, g as u8);
+            t.submit(0, 1, 2 * g, 1, 1, 9);
+            t.submit(0, 2, g, 1, 9, 9);
+            t.clock(1);
+            t.submit(planner, 3, 2 * g, 1, 1, 5);
+        }
     }
 }
 
@@ -235,24 +369,41 @@ fn main() {
     t.clock(LAST + 1);
     t.withdraw(0);
     t.withdraw(1);
-    sets(&mut t);
+    sets(&mut t, 255, 0);
     devices(&mut t);
     fields(&mut t);
     laxities(&mut t);
     last_deadlines(&mut t);
     last_start(&mut t);
     case_10(&mut t);
-    case_11(&mut t);
+    case_11(&mut t, false);
     case_12(&mut t);
     withdrawals(&mut t);
     // one live task, over 255 columns, at now 20
     t.board(256, 4);
     t.submit(3, 2, 255, 1, 200, 500);
     t.clock(20);
-    sets(&mut t);
+    sets(&mut t, 255, 0);
     // 64 live tasks
-    crowd(&mut t, 2);
+    crowd(&mut t, 2, false);
     t.clock(20);
-    sets(&mut t);
+    sets(&mut t, 255, 0);
+    // boards with a grid
+    grids(&mut t);
+    grid_devices(&mut t);
+    eight_by_four(&mut t);
+    coarse_and_fine(&mut t);
+    cases_in_steps(&mut t);
+    case_11(&mut t, true);
+    // the sets again: the width that is refused is in range and off the grid
+    t.grid(10, 1, 4);
+    sets(&mut t, 252, 254);
+    t.grid(256, 4, 4);
+    t.submit(3, 2, 252, 1, 200, 500);
+    t.clock(20);
+    sets(&mut t, 252, 254);
+    crowd(&mut t, 2, true);
+    t.clock(20);
+    sets(&mut t, 252, 254);
     std::io::stdout().write_all(&t.0).expect("a recording can be written");
 }

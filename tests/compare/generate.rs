@@ -6,17 +6,21 @@
 //! the recording, so that most events mean something: withdrawals of tasks that wait or run, ids that are live, clocks that
 //! move to a finish or a start, one tick before it, to now, to now - 1. Each profile has boards for one planner and boards
 //! for all four, and a few events in a hundred that are refused; among them deadlines about the limit of laxity and
-//! far beyond, on any board, for live ids and where 64 tasks are live. Profiles:
+//! far beyond, on any board, for live ids and where 64 tasks are live. Of each profile a third of the boards are made by kind 5,
+//! with grids from 1 to 16: W is rounded to the grid, and so are the widths but for a few in a hundred. Profiles:
 //!
-//!     tiny     1 to 6 columns, short times: many ties, many equal finishes
+//!     tiny     1 to 6 columns, or as many steps of the grid, short times: many ties, many equal finishes
 //!     paper    96 x 64 and the workload of section 5.1 of the source: areas 50 to 500, aspect ratios 0.2 to 5, half of the
 //!              tasks standing, e 5 to 100, laxity of the classes A, B, C
 //!     wide     256 columns, many live tasks
 //!     crowded  near 64 live tasks: answer 9, slots that are taken again
 //!     late     times near 2,000,000,000, and windows as long as the limit of laxity lets them be, at any now
-//!     bounds   fields at the edges of their ranges and beyond, unknown planners, boards out of range; half of the boards late
+//!     bounds   fields at the edges of their ranges and beyond, unknown planners, boards and grids out of range; half of the
+//!              boards late
 //!     lax      laxities at the limit of 10,000,000 and about it, early and late: boards booked so far ahead that the last start
 //!              within the limit decides, and boards with 64 live tasks
+//!     grid     boards of kind 5, and a few of kind 1 between them: up to 256 columns, among them the prototype of the source
+//!              with four columns a step; tasks of one step and of some, few live ones and 64
 //!     cut      events of another profile, then a record cut short, an unknown kind or any bytes; at most EVENTS
 //!     mixed    all but cut by turns
 
@@ -64,9 +68,10 @@ enum Profile {
     Cut,
     Mixed,
     Lax,
+    Grid,
 }
 
-const PLAIN: [(&str, Profile); 7] = [
+const PLAIN: [(&str, Profile); 8] = [
     ("tiny", Profile::Tiny),
     ("paper", Profile::Paper),
     ("wide", Profile::Wide),
@@ -74,6 +79,7 @@ const PLAIN: [(&str, Profile); 7] = [
     ("late", Profile::Late),
     ("bounds", Profile::Bounds),
     ("lax", Profile::Lax),
+    ("grid", Profile::Grid),
 ];
 
 /// How tasks come on one board.
@@ -156,6 +162,31 @@ impl Maker {
         }
     }
 
+    /// The width in whole steps of the board's grid, rounded up; W is a multiple, so no width up to W becomes more.
+    fn in_steps(&self, w: u64) -> u64 {
+        w.next_multiple_of(self.board.g.max(1))
+    }
+
+    /// A width within the board that is no multiple of its grid; with a grid of 1 there is none, and it is any width.
+    fn off_grid(&mut self) -> u64 {
+        let (w, g) = (self.board.w.max(1), self.board.g.max(1));
+        if g == 1 {
+            return self.dice.pick(1, w);
+        }
+        // one column beside a number of steps, or any
+        let steps = g * self.dice.pick(1, w / g);
+        let drawn = match self.dice.pick(0, 2) {
+            0 => steps - 1,
+            1 => steps - g + 1,
+            _ => self.dice.pick(1, w),
+        };
+        if drawn % g == 0 {
+            drawn - 1
+        } else {
+            drawn
+        }
+    }
+
     /// A task that is not refused, if now leaves room for one.
     fn ask(&mut self, era: &Era) -> Ask {
         let (bw, bh, now) = (self.board.w.max(1), self.board.h.max(1), self.board.now);
@@ -182,7 +213,8 @@ impl Maker {
         let laxity = if era.profile == Profile::Late && dice.percent(12) { MOST_LAX } else { laxity };
         let d = (now + e + laxity).min(END_OF_TIME);
         let id = self.fresh_id();
-        Ask { id, w: w.clamp(1, bw), h: h.clamp(1, bh), e, d }
+        let w = self.in_steps(w.clamp(1, bw));
+        Ask { id, w, h: h.clamp(1, bh), e, d }
     }
 
     fn planner(&mut self, era: &Era) -> u64 {
@@ -233,6 +265,9 @@ impl Maker {
         if self.dice.percent(era.far) {
             ask.d = self.far_deadline(ask.e);
         }
+        if self.board.g > 1 && self.dice.percent(3) {
+            ask.w = self.off_grid();
+        }
         self.emit(Event::Submit { planner, ask });
     }
 
@@ -241,7 +276,7 @@ impl Maker {
         let planner = self.planner(era);
         for _ in 0..self.dice.pick(62, 64) {
             let mut ask = self.ask(era);
-            ask.w = 1;
+            ask.w = self.in_steps(1);
             ask.e = ask.e.max(era.e.1 / 2);
             ask.d = (self.board.now + ask.e + self.dice.pick(0, MOST_LAX)).min(END_OF_TIME);
             self.emit(Event::Submit { planner, ask });
@@ -319,7 +354,7 @@ impl Maker {
         let mut planner = self.planner(era);
         let live = self.task(|_| true);
         let never = u32::MAX as u64;
-        match self.dice.pick(0, 20) {
+        match self.dice.pick(0, 21) {
             0 | 1 => match live {
                 Some(t) => ask.id = t.id,
                 None => ask.id = 0,
@@ -345,7 +380,7 @@ impl Maker {
             }
             8 => planner = self.dice.one_of(&[4, 5, 128, 255]),
             9 => ask.id = 0,
-            10 => ask.w = self.dice.one_of(&[0, w + 1, 257, 65_535]),
+            10 => ask.w = self.dice.one_of(&[0, w + 1, w + self.board.g, 257, 65_535]),
             11 => ask.h = self.dice.one_of(&[0, h + 1, 1_025, 65_535]),
             12 => ask.e = self.dice.one_of(&[0, LONGEST + 1, never]),
             13 => ask.d = self.dice.one_of(&[END_OF_TIME + 1, never]),
@@ -361,6 +396,7 @@ impl Maker {
                 }
                 ask.d = self.too_far(ask.e);
             }
+            20 => ask.w = self.off_grid(),
             _ => {
                 if self.dice.percent(33) {
                     planner = 4;
@@ -371,7 +407,8 @@ impl Maker {
                     ask.id = t.id;
                 }
                 if self.dice.percent(33) {
-                    ask.w = self.dice.one_of(&[0, w + 1]);
+                    let off = self.off_grid();
+                    ask.w = self.dice.one_of(&[0, w + 1, off]);
                 }
                 if self.dice.percent(33) {
                     ask.h = self.dice.one_of(&[0, h + 1]);
@@ -397,7 +434,9 @@ impl Maker {
                 let mut ask = self.ask(era);
                 let mut planner = self.planner(era);
                 if self.dice.percent(25) {
-                    ask.w = self.dice.one_of(&[1, w.max(2) - 1, w.max(1), 1]);
+                    // one step, all but one, all
+                    let step = self.in_steps(1);
+                    ask.w = self.dice.one_of(&[step, w.max(2 * step) - step, w.max(1), step]);
                 }
                 if self.dice.percent(25) {
                     ask.h = self.dice.one_of(&[1, h.max(2) - 1, h.max(1)]);
@@ -417,7 +456,10 @@ impl Maker {
                     match self.dice.pick(0, 7) {
                         0 => planner = self.dice.one_of(&[4, 5, 255]),
                         1 => ask.id = 0,
-                        2 => ask.w = self.dice.one_of(&[0, w + 1, 65_535]),
+                        2 => {
+                            let off = self.off_grid();
+                            ask.w = self.dice.one_of(&[0, w + 1, w + self.board.g, off, off, 65_535]);
+                        }
                         3 => ask.h = self.dice.one_of(&[0, h + 1, 65_535]),
                         4 => ask.e = self.dice.one_of(&[0, LONGEST + 1, never]),
                         5 => ask.d = self.dice.one_of(&[0, END_OF_TIME + 1, never]),
@@ -448,8 +490,27 @@ impl Maker {
         }
     }
 
+    /// The grid of a board of W columns that is to be made by kind 5, or None for kind 1.
+    fn grid(&mut self, profile: Profile, w: u64) -> Option<u64> {
+        let dice = &mut self.dice;
+        if !dice.percent(33) {
+            return None;
+        }
+        Some(match profile {
+            // steps enough for many tasks side by side
+            Profile::Crowded => dice.pick(1, w / 40),
+            Profile::Lax if w >= 64 => dice.pick(1, w / 40),
+            Profile::Bounds => dice.one_of(&[1, 1, 2, 3, 5, 8, 15, 16, 16]),
+            Profile::Paper => dice.one_of(&[1, 2, 3, 4, 4, 4, 5, 6, 7, 8, 12, 16]),
+            _ => dice.one_of(&[1, 2, 3, 4, 4, 5, 6, 7, 8, 9, 10, 11, 12, 13, 14, 15, 16]),
+        })
+    }
+
     /// A board of the profile and how tasks come on it. Emits the new board.
     fn open(&mut self, profile: Profile) -> Era {
+        if profile == Profile::Grid {
+            return self.open_grid();
+        }
         let dice = &mut self.dice;
         let planner = if dice.percent(45) { None } else { Some(dice.one_of(&[0, 0, 1, 1, 2, 3])) };
         let mut era = Era { profile, planner, pace: (0, 3), w: (1, 4), e: (1, 6), laxity: (0, 12), far: 1, odd: 6, withdraw: 4 };
@@ -526,7 +587,20 @@ impl Maker {
                 (dice.one_of(&[1, 2, 3, 4, 5, 5, 6, 6, 6]), dice.pick(1, 3))
             }
         };
-        self.emit(Event::NewBoard { w, h });
+        match self.grid(profile, w) {
+            None => self.emit(Event::NewBoard { w, h }),
+            Some(g) if profile == Profile::Tiny => {
+                // steps in place of columns
+                era.w = (g * era.w.0, g * era.w.1);
+                self.emit(Event::GridBoard { w: g * w, h, g });
+            }
+            Some(g) => {
+                // W and the widest are rounded down to the grid; a board narrower than a step gets one
+                let down = |n: u64| (n - n % g).max(g);
+                era.w.1 = down(era.w.1);
+                self.emit(Event::GridBoard { w: down(w), h, g });
+            }
+        }
         if profile == Profile::Late {
             // close to the end of time by a little or a lot; or far from it, at any now
             let room = self.dice.one_of(&[40, 400, 5_000, 200_000, 5_000_000, 24_000_000, END_OF_TIME]);
@@ -560,14 +634,69 @@ impl Maker {
         era
     }
 
+    /// A board of kind 5, seldom of kind 1, and how tasks come on it: the profile `grid`.
+    fn open_grid(&mut self) -> Era {
+        let dice = &mut self.dice;
+        let (steps, g, h) = if dice.percent(20) {
+            // the prototype of section 3.2 of the source: a grid of 4, and the smallest task is loaded in a 14th of the time
+            // of the whole device (1.42 and 19.88 ms)
+            (14, 4, 64)
+        } else {
+            let g = if dice.percent(75) { dice.one_of(&[2, 3, 4, 5, 7, 8, 12, 16]) } else { dice.pick(1, 16) };
+            let most = if dice.percent(25) { 8 } else { 256 / g };
+            let steps = if dice.percent(50) { most } else { dice.pick(1, most) };
+            (steps, g, dice.pick(1, 64))
+        };
+        let planner = if dice.percent(45) { None } else { Some(dice.one_of(&[0, 1, 1, 2, 2, 3])) };
+        let widest = g * dice.one_of(&[1, 1, 2, 3, (steps / 4).max(1)]);
+        let mut era = Era { profile: Profile::Grid, planner, pace: (0, 3), w: (1, widest), e: (1, dice.pick(2, 9)), laxity: (0, dice.pick(2, 30)), far: 1, odd: 6, withdraw: 4 };
+        if dice.percent(60) {
+            // slow to end and booked far ahead, so that many are live however few steps there are
+            era.e = (dice.pick(1, 60), dice.pick(60, 600));
+            era.laxity = (dice.one_of(&[0, 0, 1_000]), dice.pick(1_000, 8_000));
+            era.pace = (0, dice.pick(2, 20));
+        }
+        let w = g * steps;
+        let event = if dice.percent(10) { Event::NewBoard { w, h } } else { Event::GridBoard { w, h, g } };
+        self.emit(event);
+        era
+    }
+
+    /// A new board that is refused: W or H out of range, and for kind 5 the grid too, or a W that is no multiple of it.
+    fn bad_board(&mut self) {
+        if self.dice.percent(50) {
+            let bad = [(0, 1), (1, 0), (257, 1), (256, 1_025), (0, 0), (65_535, 65_535), (257, 1_025)];
+            let (w, h) = self.dice.one_of(&bad);
+            return self.emit(Event::NewBoard { w, h });
+        }
+        let w = self.dice.pick(1, 256);
+        let g = self.dice.pick(2, 16);
+        let no_multiple = if w % g == 0 { w - 1 } else { w };
+        let (w, h, g) = match self.dice.pick(0, 9) {
+            0 => (w, 1, 0),
+            // g out of range, and W a multiple of it
+            1 => (17 * self.dice.pick(1, 15), 1, 17),
+            2 => (255, 1, self.dice.one_of(&[17, 51, 85, 255])),
+            3 => (w, 1, self.dice.one_of(&[17, 18, 32, 255])),
+            // 0 is a multiple of every grid, and no W
+            4 => (0, 1, self.dice.pick(0, 17)),
+            5 => self.dice.one_of(&[(0, 0, 0), (257, 1, 1), (272, 1, 16), (256, 1_025, 16), (256, 0, 16), (65_535, 65_535, 255), (65_520, 1, 16)]),
+            _ => (no_multiple, self.dice.pick(1, 1_024), g),
+        };
+        self.emit(Event::GridBoard { w, h, g });
+    }
+
     /// `events` events of a plain profile (those of an unsound board to begin with, now and then).
     fn play(&mut self, profile: Profile, events: u64) {
         let stop = self.left.saturating_sub(events);
         while self.left > stop {
-            if matches!(profile, Profile::Tiny | Profile::Bounds) && self.dice.percent(8) {
-                let bad = [(0, 1), (1, 0), (257, 1), (256, 1_025), (0, 0), (65_535, 65_535), (257, 1_025)];
-                let (w, h) = self.dice.one_of(&bad);
-                self.emit(Event::NewBoard { w, h });
+            let bad = match profile {
+                Profile::Tiny | Profile::Bounds => 8,
+                Profile::Grid => 25,
+                _ => 0,
+            };
+            if self.dice.percent(bad) {
+                self.bad_board();
                 let era = Era { profile, planner: None, pace: (0, 1), w: (1, 1), e: (1, 2), laxity: (0, 2), far: 0, odd: 0, withdraw: 0 };
                 for _ in 0..self.dice.pick(0, 4) {
                     self.odd(&era);
@@ -578,6 +707,7 @@ impl Maker {
                 Profile::Paper => self.dice.pick(1_000, 12_000),
                 Profile::Wide | Profile::Crowded => self.dice.pick(500, 6_000),
                 Profile::Lax => self.dice.pick(20, 400),
+                Profile::Grid => self.dice.pick(20, 800),
                 _ => self.dice.pick(10, 250),
             };
             let close = self.left.saturating_sub(length).max(stop);
@@ -626,6 +756,17 @@ impl Maker {
                     self.submit(era)
                 }
             }
+            Profile::Grid => {
+                // hardly a clock to a later finish than the next, as it would end many tasks
+                let live = self.board.tasks.len();
+                if live == 64 && self.dice.percent(80) || self.dice.percent(10) {
+                    self.clock_to_event(1)
+                } else if self.dice.percent(8) {
+                    self.clock_on(era)
+                } else {
+                    self.submit(era)
+                }
+            }
             Profile::Paper | Profile::Wide => {
                 // an arrival: the clock, then the task
                 self.pending_clock = !self.pending_clock;
@@ -651,10 +792,11 @@ impl Maker {
         match self.dice.pick(0, 9) {
             0..=5 => {
                 let mut record = Vec::new();
-                let event = match self.dice.pick(1, 4) {
+                let event = match self.dice.pick(1, 5) {
                     1 => Event::NewBoard { w: self.dice.pick(0, 300), h: self.dice.pick(0, 1_100) },
                     2 => Event::Submit { planner: self.dice.pick(0, 5), ask: self.ask(&era) },
                     3 => Event::Clock { instant: self.board.now + 1 },
+                    5 => Event::GridBoard { w: self.dice.pick(0, 300), h: self.dice.pick(0, 1_100), g: self.dice.pick(0, 255) },
                     _ => Event::Withdraw { id: self.dice.pick(0, 99) },
                 };
                 event.write(&mut record);
@@ -665,7 +807,7 @@ impl Maker {
             6..=8 => {
                 let kind = match self.dice.pick(0, 250) {
                     0 => 0,
-                    n => n as u8 + 4,
+                    n => n as u8 + 5,
                 };
                 self.bytes.push(kind);
                 for _ in 0..self.dice.one_of(&[0, 1, 4, 40]) {
@@ -675,7 +817,7 @@ impl Maker {
             }
             _ => {
                 for _ in 0..self.dice.pick(0, 300) {
-                    let byte = if self.dice.percent(60) { self.dice.pick(0, 4) } else { self.dice.pick(0, 255) };
+                    let byte = if self.dice.percent(60) { self.dice.pick(0, 5) } else { self.dice.pick(0, 255) };
                     self.bytes.push(byte as u8);
                 }
             }
@@ -686,7 +828,7 @@ impl Maker {
 fn main() {
     let words: Vec<String> = std::env::args().skip(1).collect();
     let usage = || -> ! {
-        eprintln!("usage: generate tiny|paper|wide|crowded|late|bounds|lax|cut|mixed SEED EVENTS");
+        eprintln!("usage: generate tiny|paper|wide|crowded|late|bounds|lax|grid|cut|mixed SEED EVENTS");
         exit(2)
     };
     let [profile, seed, events] = &words[..] else { usage() };

@@ -1,5 +1,5 @@
-//! model.rs: the rules of document 01 and of request Q-2 of document 02, written from these alone and meant to be slow, plain
-//! and right.
+//! model.rs: the rules of document 01 and of the requests of document 02, written from these alone and meant to be
+//! slow, plain and right.
 //!
 //! It is the body of `second.rs` (the second program that `plan` is compared with), and `generate.rs` keeps such a board
 //! so that its recordings are about tasks that are live. It shares no text and no method with the Rattle code. Two methods
@@ -21,6 +21,8 @@ pub const LONGEST: u64 = 1_000_000;
 pub const END_OF_TIME: u64 = 2_000_000_000;
 /// The largest laxity that is not refused.
 pub const MOST_LAX: u64 = 10_000_000;
+/// The coarsest grid: so many columns a step.
+pub const COARSEST: u64 = 16;
 
 /// What a submission is tested for, in this order; openings test those of them that speak of no planner, no id and no slot. The
 /// first test that holds gives the answer. That is not the lowest number: 18 comes before 9.
@@ -35,6 +37,8 @@ pub const CHECK_SHEET: u64 = 60_000;
 #[derive(Clone, Copy, Debug, PartialEq, Eq)]
 pub enum Event {
     NewBoard { w: u64, h: u64 },
+    /// Kind 5. An event of its own: with g 1 it makes the board of kind 1, but its record is another.
+    GridBoard { w: u64, h: u64, g: u64 },
     Submit { planner: u64, ask: Ask },
     Clock { instant: u64 },
     Withdraw { id: u64 },
@@ -64,6 +68,7 @@ pub fn body_length(kind: u8) -> Option<usize> {
         2 => Some(1 + 4 + 2 + 2 + 4 + 4),
         3 => Some(4),
         4 => Some(4),
+        5 => Some(2 + 2 + 1),
         _ => None,
     }
 }
@@ -83,6 +88,7 @@ impl Event {
             Event::Submit { .. } => 2,
             Event::Clock { .. } => 3,
             Event::Withdraw { .. } => 4,
+            Event::GridBoard { .. } => 5,
         }
     }
 
@@ -102,6 +108,7 @@ impl Event {
             },
             3 => Event::Clock { instant: little(&body[0..4]) },
             4 => Event::Withdraw { id: little(&body[0..4]) },
+            5 => Event::GridBoard { w: little(&body[0..2]), h: little(&body[2..4]), g: little(&body[4..5]) },
             _ => unreachable!("parse is called for known kinds only"),
         }
     }
@@ -128,6 +135,11 @@ impl Event {
             }
             Event::Clock { instant } => put(out, instant, 4),
             Event::Withdraw { id } => put(out, id, 4),
+            Event::GridBoard { w, h, g } => {
+                put(out, w, 2);
+                put(out, h, 2);
+                put(out, g, 1);
+            }
         }
     }
 }
@@ -185,6 +197,8 @@ impl Task {
 pub struct Board {
     pub w: u64,
     pub h: u64,
+    /// Columns a step, 1 to 16; 0 on the board of zeros.
+    pub g: u64,
     pub now: u64,
     /// Live tasks in the order in which they were taken.
     pub tasks: Vec<Task>,
@@ -217,6 +231,12 @@ fn unmarked_runs(marks: &Marks, w: u64) -> Vec<Run> {
     runs
 }
 
+/// W, H and grid of a board. The range of g comes before the remainder: there is none by 0.
+fn device_in_range(w: u64, h: u64, g: u64) -> bool {
+    let ranges = (1..=MOST_COLUMNS).contains(&w) && (1..=MOST_ROWS).contains(&h) && (1..=COARSEST).contains(&g);
+    ranges && w % g == 0
+}
+
 /// Best-fit order: those wide enough, the narrowest first, the leftmost of equals first.
 fn best_fit(mut runs: Vec<Run>, w: u64) -> Vec<Run> {
     runs.retain(|r| r.width >= w);
@@ -226,7 +246,7 @@ fn best_fit(mut runs: Vec<Run>, w: u64) -> Vec<Run> {
 
 impl Board {
     pub fn zeros() -> Board {
-        Board { w: 0, h: 0, now: 0, tasks: Vec::new(), free: (1..=MOST_LIVE).collect() }
+        Board { w: 0, h: 0, g: 0, now: 0, tasks: Vec::new(), free: (1..=MOST_LIVE).collect() }
     }
 
     pub fn sound(&self) -> bool {
@@ -235,21 +255,28 @@ impl Board {
 
     pub fn apply(&mut self, event: &Event) -> Answer {
         match *event {
-            Event::NewBoard { w, h } => self.new_board(w, h),
+            Event::NewBoard { w, h } => self.new_board(w, h, 1),
+            Event::GridBoard { w, h, g } => self.new_board(w, h, g),
             Event::Submit { planner, ask } => self.submit(planner, &ask),
             Event::Clock { instant } => self.clock(instant),
             Event::Withdraw { id } => self.withdraw(id),
         }
     }
 
-    fn new_board(&mut self, w: u64, h: u64) -> Answer {
+    fn new_board(&mut self, w: u64, h: u64, g: u64) -> Answer {
         *self = Board::zeros();
-        if w < 1 || w > MOST_COLUMNS || h < 1 || h > MOST_ROWS {
+        if !device_in_range(w, h, g) {
             return just(2);
         }
         self.w = w;
         self.h = h;
+        self.g = g;
         just(0)
+    }
+
+    /// Where a task may begin: c - 1 is a multiple of the grid. For sound boards and columns from 1.
+    pub fn may_begin(&self, column: u64) -> bool {
+        (column - 1) % self.g == 0
     }
 
     /// Every refusal number whose test holds, in no order. 1 hides the rest: the other tests read the board.
@@ -267,7 +294,7 @@ impl Board {
         if ask.e < 1 || ask.e > LONGEST || ask.d > END_OF_TIME {
             numbers.push(6);
         }
-        if ask.w < 1 || ask.w > self.w || ask.h < 1 || ask.h > self.h {
+        if ask.w < 1 || ask.w > self.w || ask.w % self.g != 0 || ask.h < 1 || ask.h > self.h {
             numbers.push(5);
         }
         if id_counts {
@@ -372,11 +399,19 @@ impl Board {
         marks
     }
 
-    /// What Reference does at an instant t: free intervals at t in best-fit order, the first left edge that meets no
-    /// waiting task from t up to t + e.
+    /// The unmarked runs whose left edge a published planner may take, in best-fit order. On a sound board the grid takes none
+    /// away: live tasks begin and end at steps, so the runs between them do too.
+    fn candidates(&self, marks: &Marks, w: u64) -> Vec<Run> {
+        let mut runs = best_fit(unmarked_runs(marks, self.w), w);
+        runs.retain(|r| self.may_begin(r.left));
+        runs
+    }
+
+    /// What Reference does at an instant t: free intervals at t in best-fit order, the first left edge on the grid that meets
+    /// no waiting task from t up to t + e.
     fn reference_at(&self, ask: &Ask, t: u64) -> Option<(u64, u64)> {
         let held = self.marked(|k| k.start <= t && t < k.finish());
-        for run in best_fit(unmarked_runs(&held, self.w), ask.w) {
+        for run in self.candidates(&held, ask.w) {
             let meets = |k: &Task| {
                 let apart_in_space = run.left + ask.w <= k.column || k.column + k.w <= run.left;
                 let apart_in_time = t + ask.e <= k.start || k.finish() <= t;
@@ -399,17 +434,20 @@ impl Board {
             // run wide enough.
             1 => self.instants(ask).into_iter().find_map(|t| {
                 let unreleased = self.marked(|k| k.finish() > t);
-                best_fit(unmarked_runs(&unreleased, self.w), ask.w).first().map(|run| (run.left, t))
+                self.candidates(&unreleased, ask.w).first().map(|run| (run.left, t))
             }),
             2 => self.instants(ask).into_iter().find_map(|t| self.reference_at(ask, t)),
             // Full. Let (s, c) be an opening with s after now and the earliest start of all. Then (s - 1, c) is none,
-            // though within the window: some live task on those columns holds a tick from s - 1 up to s - 1 + e, but none
-            // from s up to s + e; so it holds s - 1 and not s, and s is its finish. Hence now and the finishes are all
-            // the starts to try. At each, a column is in the way if a live task stands on it at any tick from s up to
-            // s + e; the lowest column is the left edge of the leftmost run wide enough.
+            // though within the window and on the grid: some live task on those columns holds a tick from s - 1 up to
+            // s - 1 + e, but none from s up to s + e; so it holds s - 1 and not s, and s is its finish. Hence now and the
+            // finishes are all the starts to try. At each, a column is in the way if a live task stands on it at any tick
+            // from s up to s + e; the lowest column is the first on the grid, of all runs, that has w columns of its run
+            // from there on.
             3 => self.instants(ask).into_iter().find_map(|s| {
                 let in_the_way = self.marked(|k| k.start < s + ask.e && s < k.finish());
-                unmarked_runs(&in_the_way, self.w).iter().find(|run| run.width >= ask.w).map(|run| (run.left, s))
+                let runs = unmarked_runs(&in_the_way, self.w);
+                let mut columns = runs.iter().flat_map(|run| run.left..(run.left + run.width + 1).saturating_sub(ask.w));
+                columns.find(|c| self.may_begin(*c)).map(|c| (c, s))
             }),
             _ => unreachable!("planner was tested"),
         }
@@ -425,17 +463,23 @@ impl Board {
         (self.sheet_end(ask) - self.now) * self.w
     }
 
+    /// The columns at which a step of the grid begins, counted off from the first; the sheet's own way to say `may_begin`.
+    fn steps(&self) -> Vec<u64> {
+        (1..=self.w).step_by(self.g as usize).collect()
+    }
+
     /// The planners square by square. The sheet goes from now to the deadline and at least to the last finish.
     pub fn place_by_sheet(&self, planner: u64, ask: &Ask) -> Option<(u64, u64)> {
         let sheet = Sheet::draw(self, self.sheet_end(ask));
         let last = ask.d - ask.e;
+        let steps = self.steps();
+        let ordered = |free: Vec<u64>| best_fit(adjacent(&free), ask.w).into_iter().filter(|run| steps.contains(&run.left));
         // At t, among the columns that are free in row t. A square held by a running task blocks here too; 01 names the
         // waiting ones only. It is the same: a running task started by now, so if it holds a square at or after t, it
         // holds that column in row t, and the run would not be free.
         let at = |t: u64| {
             let free: Vec<u64> = (1..=self.w).filter(|c| sheet.free(t, *c)).collect();
-            let ordered = best_fit(adjacent(&free), ask.w);
-            ordered.iter().find(|run| sheet.all_free(t, ask.e, run.left, ask.w)).map(|run| (run.left, t))
+            ordered(free).find(|run| sheet.all_free(t, ask.e, run.left, ask.w)).map(|run| (run.left, t))
         };
         match planner {
             0 => at(self.now),
@@ -446,13 +490,14 @@ impl Board {
                 let releases: Vec<u64> = (1..=self.w).map(release).collect();
                 (self.now..=last).find_map(|t| {
                     let free: Vec<u64> = (1..=self.w).filter(|c| releases[*c as usize - 1] <= t).collect();
-                    best_fit(adjacent(&free), ask.w).first().map(|run| (run.left, t))
+                    ordered(free).next().map(|run| (run.left, t))
                 })
             }
             // now, and each tick at which the owner of some square of the row before is gone
             2 => (self.now..=last).filter(|t| *t == self.now || sheet.someone_leaves(*t)).find_map(at),
             3 => (self.now..=last).find_map(|s| {
-                (1..=self.w + 1 - ask.w).find(|c| sheet.all_free(s, ask.e, *c, ask.w)).map(|c| (c, s))
+                let mut fitting = steps.iter().filter(|c| **c + ask.w - 1 <= self.w);
+                fitting.find(|c| sheet.all_free(s, ask.e, **c, ask.w)).map(|c| (*c, s))
             }),
             _ => unreachable!("planner was tested"),
         }
@@ -521,42 +566,42 @@ impl Board {
         open
     }
 
-    /// The openings strictly after the pair, in order, at most `most` of them, and whether a further one remains. Only
-    /// starts with an opening are visited (and the pair's own), never a blocked tick.
+    /// The openings strictly after the pair, in order, at most `most` of them, and whether a further one remains. The pair may
+    /// lie off the grid. Only starts with an opening are visited (and the pair's own), never a blocked tick.
     pub fn openings(&self, ask: &Ask, after: (u64, u64), most: usize) -> Result<(Vec<(u64, u64)>, bool), u64> {
         if let Some(number) = self.refusal(None, ask, false) {
             return Err(number);
         }
-        let columns: Vec<Vec<(u64, u64)>> = (1..=self.w + 1 - ask.w).map(|c| self.open_starts(ask, c)).collect();
+        let places = (1..=self.w + 1 - ask.w).filter(|c| self.may_begin(*c));
+        let columns: Vec<(u64, Vec<(u64, u64)>)> = places.map(|c| (c, self.open_starts(ask, c))).collect();
         let mut found = Vec::new();
         let mut earliest = self.now.max(after.0);
         loop {
             // the next start from `earliest` on that is open in some column
             let next = columns
                 .iter()
-                .filter_map(|open| open.iter().find(|(_, to)| *to >= earliest).map(|(from, _)| *from.max(&earliest)))
+                .filter_map(|(_, open)| open.iter().find(|(_, to)| *to >= earliest).map(|(from, _)| *from.max(&earliest)))
                 .min();
             let Some(s) = next else { return Ok((found, false)) };
-            for (i, open) in columns.iter().enumerate() {
-                let c = i as u64 + 1;
-                if (s, c) > after && open.iter().any(|(from, to)| *from <= s && s <= *to) {
+            for (c, open) in &columns {
+                if (s, *c) > after && open.iter().any(|(from, to)| *from <= s && s <= *to) {
                     if found.len() == most {
                         return Ok((found, true));
                     }
-                    found.push((s, c));
+                    found.push((s, *c));
                 }
             }
             earliest = s + 1;
         }
     }
 
-    /// The openings by looking at every start, every column, every square: for small windows.
+    /// The openings by looking at every start, every step, every square: for small windows.
     pub fn openings_by_sheet(&self, ask: &Ask) -> Vec<(u64, u64)> {
         let sheet = Sheet::draw(self, self.sheet_end(ask));
         let mut found = Vec::new();
         for s in self.now..=ask.d - ask.e {
-            for c in 1..=self.w + 1 - ask.w {
-                if sheet.all_free(s, ask.e, c, ask.w) {
+            for c in self.steps() {
+                if c + ask.w - 1 <= self.w && sheet.all_free(s, ask.e, c, ask.w) {
                     found.push((s, c));
                 }
             }
@@ -568,8 +613,8 @@ impl Board {
 
     /// What makes the board unsound, by the whole definition. A live task's laxity is no part of it.
     pub fn fault(&self) -> Option<String> {
-        if self.w < 1 || self.w > MOST_COLUMNS || self.h < 1 || self.h > MOST_ROWS || self.now > END_OF_TIME {
-            return Some(format!("W {} H {} now {} out of range", self.w, self.h, self.now));
+        if !device_in_range(self.w, self.h, self.g) || self.now > END_OF_TIME {
+            return Some(format!("W {} H {} grid {} now {} out of range", self.w, self.h, self.g, self.now));
         }
         if self.tasks.len() > MOST_LIVE {
             return Some("more than 64 live".into());
@@ -585,6 +630,9 @@ impl Board {
                 && k.column + k.w - 1 <= self.w;
             if !numbers {
                 return Some(format!("out of range: {k:?}"));
+            }
+            if k.w % self.g != 0 || !self.may_begin(k.column) {
+                return Some(format!("off the grid of {}: {k:?}", self.g));
             }
             if k.finish() > k.d || k.finish() <= self.now {
                 return Some(format!("ends after its deadline or has ended: {k:?} at {}", self.now));
@@ -644,11 +692,14 @@ impl Board {
                 return Some(format!("openings: lists {quick:?}, sheet {slow:?}, {ask:?}, {self:?}"));
             }
             if slow.len() < 60 {
-                for (i, pair) in slow.iter().enumerate() {
-                    let (rest, more) = self.openings(ask, *pair, 3).unwrap();
-                    let upto = slow.len().min(i + 4);
-                    if rest != slow[i + 1..upto] || more != (upto < slow.len()) {
-                        return Some(format!("openings after {pair:?}: {rest:?} {more}, of {slow:?}"));
+                for (i, (s, c)) in slow.iter().enumerate() {
+                    // the pair itself, and the last column of its step, which lies off the grid: the same openings follow
+                    for pair in [(*s, *c), (*s, c + self.g - 1)] {
+                        let (rest, more) = self.openings(ask, pair, 3).unwrap();
+                        let upto = slow.len().min(i + 4);
+                        if rest != slow[i + 1..upto] || more != (upto < slow.len()) {
+                            return Some(format!("openings after {pair:?}: {rest:?} {more}, of {slow:?}"));
+                        }
                     }
                 }
             }
@@ -704,12 +755,11 @@ impl Board {
         } else {
             self.marked(|k| k.start <= start && start < k.finish())
         };
-        let runs = unmarked_runs(&held, self.w);
         if planner == 3 {
-            told.inside_run = runs.iter().all(|r| r.left != column) as u64;
+            told.inside_run = unmarked_runs(&held, self.w).iter().all(|r| r.left != column) as u64;
             return told;
         }
-        let order = best_fit(runs, ask.w);
+        let order = self.candidates(&held, ask.w);
         let at = order.iter().position(|r| r.left == column).unwrap();
         told.tie = order.iter().any(|r| r.left != column && r.width == order[at].width) as u64;
         told.not_leftmost = order.iter().any(|r| r.left < column) as u64;

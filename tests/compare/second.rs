@@ -1,25 +1,26 @@
 //! second: the independent second program. It reads event records on standard input and prints what `plan` has to print by
 //! document 01, so that the two can be compared byte for byte (`compare.sh`). Written from document 01 alone, the summary from
-//! request Q-1 of document 02, the refusal 18 from its request Q-2; the rules stand in `model.rs`. Build:
-//! `rustc -O --edition 2021 tests/compare/second.rs -o second` (std only).
+//! request Q-1 of document 02, the refusal 18 from its request Q-2, the grid and kind 5 from its request Q-3; the rules stand in
+//! `model.rs`. Build: `rustc -O --edition 2021 tests/compare/second.rs -o second` (std only).
 //!
 //!     second [--check] [--counts]              the lines of `plan`
 //!     second horizon                           these five read the records in silence, then answer about the board as it
 //!     second busy T                            stands: first line `answer N` with 01's number, rows only if N is 0
 //!     second openings W H E D [START COLUMN [MOST]]      rows `start column` after the pair (0 0), at most MOST (1000),
 //!                                              then `more` or `end`
-//!     second board                             row `W H now`, then `slot id w h e d column start finish phase` by slot
+//!     second board                             row `W H now`, or `W H now grid` where the grid is not 1, then
+//!                                              `slot id w h e d column start finish phase` by slot
 //!     second stamp T                           as board, with the phases at T
 //!     second summary [FILE ..]                 Q-1: the figures over all files, each a recording of its own (standard input
 //!                                              as one recording where no file is named)
 //!     second summary --add [FILE ..]           the sum of summaries that end in `stop end`, one or more in each file
 //!     second --self-test                       the listing and the cases 1 to 12 of document 01, laxities about the limit of
-//!                                              Q-2, and summaries; ends with 1 if one fails
+//!                                              Q-2, the grids of Q-3, and summaries; ends with 1 if one fails
 //!
 //! --check   after each event: the board is sound by the whole definition, no live task has moved, and a submission is
 //!           answered the same by the lists and, where the window is small, square by square. Ends with 3 if not.
 //! --counts  on standard error: how often each answer came, by kind and planner, how many placements tell right methods from
-//!           slips, and what was answered at the edges of Q-2's limit.
+//!           slips, and what was answered at the edges of Q-2's limit and on boards with a grid of 2 and more.
 //! --limit N stops after N events instead of 1,000,000,000 (to try the stop itself); stands before `summary` too.
 //!
 //! A recording that ends with 15 or 16 is not answered by the five questions: a message on standard error names the event, and
@@ -100,8 +101,8 @@ fn stop(message: &str) -> ! {
 
 #[derive(Default)]
 struct Counts {
-    /// by answer number: submissions to planners 0 to 3, to other planners, then the kinds 1, 3, 4
-    answers: [[u64; 8]; 19],
+    /// by answer number: submissions to planners 0 to 3, to other planners, then the kinds 1, 5, 3, 4
+    answers: [[u64; 9]; 19],
     telling: [Telling; 4],
     /// by the number of live tasks at a submission
     live: Vec<u64>,
@@ -113,6 +114,14 @@ struct Counts {
     /// placed as late as the limit lets a task start; placed to start from 1,990,000,000 on
     last_start: u64,
     late_start: u64,
+    /// by answer number: submissions to planners 0 to 3 and to other planners on a board with a grid of 2 and more
+    grid: [[u64; 5]; 19],
+    /// of those answered 5: of a width and height in range, so refused for the grid alone
+    off_grid: u64,
+    /// by grid: boards made by kind 5
+    grids: [u64; 17],
+    /// kinds 5 that were refused: g out of range; else W in range and no multiple; else W or H
+    bad_grids: [u64; 3],
 }
 
 impl Counts {
@@ -120,8 +129,9 @@ impl Counts {
         let place = match event {
             Event::Submit { planner, .. } => (*planner).min(4) as usize,
             Event::NewBoard { .. } => 5,
-            Event::Clock { .. } => 6,
-            Event::Withdraw { .. } => 7,
+            Event::GridBoard { .. } => 6,
+            Event::Clock { .. } => 7,
+            Event::Withdraw { .. } => 8,
         };
         self.answers[answer.number as usize][place] += 1;
     }
@@ -141,8 +151,25 @@ impl Counts {
         }
     }
 
+    /// What the grid had to do with an answer; the board is the one that followed.
+    fn add_grid(&mut self, event: &Event, answer: &Answer, board: &Board) {
+        match *event {
+            Event::GridBoard { g, .. } if answer.number == 0 => self.grids[g as usize] += 1,
+            Event::GridBoard { w, g, .. } => {
+                let cause = if g < 1 || g > 16 { 0 } else if (1..=256).contains(&w) && w % g != 0 { 1 } else { 2 };
+                self.bad_grids[cause] += 1;
+            }
+            Event::Submit { planner, ask } if board.g > 1 => {
+                self.grid[answer.number as usize][planner.min(4) as usize] += 1;
+                let in_range = (1..=board.w).contains(&ask.w) && (1..=board.h).contains(&ask.h);
+                self.off_grid += (answer.number == 5 && in_range) as u64;
+            }
+            _ => {}
+        }
+    }
+
     fn print(&self) {
-        eprintln!("answer  reference    horizon   stuffing       full      other  new board      clock   withdraw");
+        eprintln!("answer  reference    horizon   stuffing       full      other  new board grid board      clock   withdraw");
         for (number, row) in self.answers.iter().enumerate() {
             if row.iter().any(|n| *n > 0) {
                 let cells: Vec<String> = row.iter().map(|n| format!("{n:>10}")).collect();
@@ -176,6 +203,15 @@ impl Counts {
             }
         }
         eprintln!("placed at the last start that the limit allows: {}; to start from 1,990,000,000 on: {}", self.last_start, self.late_start);
+        eprintln!("answer  reference    horizon   stuffing       full      other  (boards with a grid of 2 and more)");
+        for (number, row) in self.grid.iter().enumerate() {
+            if row.iter().any(|n| *n > 0) {
+                let cells: Vec<String> = row.iter().map(|n| format!("{n:>10}")).collect();
+                eprintln!("{number:>6} {}", cells.join(" "));
+            }
+        }
+        eprintln!("answered 5 for the grid alone: {}", self.off_grid);
+        eprintln!("boards by kind 5, of the grids 1 to 16: {:?}; refused for g, for W no multiple, for the rest: {:?}", &self.grids[1..], self.bad_grids);
     }
 }
 
@@ -249,6 +285,7 @@ fn run<R: Read>(from: R, options: &Options, counts: &mut Counts, line: &mut dyn 
                     }
                 }
                 counts.add(&event, &answer);
+                counts.add_grid(&event, &answer, &board);
                 if let Event::Submit { ask, .. } = event {
                     counts.add_laxity(board.now, live, &ask, &answer);
                 }
@@ -259,7 +296,7 @@ fn run<R: Read>(from: R, options: &Options, counts: &mut Counts, line: &mut dyn 
     board
 }
 
-/// What is wrong with a step, by 01's sentences on what follows and Q-2's on what is too lax.
+/// What is wrong with a step, by 01's sentences on what follows, Q-2's on what is too lax and Q-3's on the grid.
 fn check(before: &Board, event: &Event, answer: &Answer, after: &Board) -> Option<String> {
     if let Event::Submit { ask, .. } = event {
         if let Some(difference) = before.methods_differ(ask) {
@@ -268,6 +305,15 @@ fn check(before: &Board, event: &Event, answer: &Answer, after: &Board) -> Optio
         let too_lax = before.now + ask.e + 10_000_000 < ask.d;
         if matches!(answer.number, 0 | 8 | 9 | 10) && too_lax || answer.number == 18 && !too_lax {
             return Some(format!("too lax: {too_lax}"));
+        }
+        // in whole steps, counted and not divided
+        let steps = (1..=256).any(|k| k * before.g == ask.w);
+        let in_range = (1..=before.w).contains(&ask.w) && (1..=before.h).contains(&ask.h);
+        if !matches!(answer.number, 1 | 3 | 4 | 5) && !(steps && in_range) || answer.number == 5 && steps && in_range {
+            return Some(format!("width in steps of {}: {steps}, sizes in range: {in_range}", before.g));
+        }
+        if answer.number == 0 && !(0..256).any(|k| 1 + k * before.g == answer.column) {
+            return Some(format!("begins off the grid of {}", before.g));
         }
     }
     if after.sound() {
@@ -278,13 +324,19 @@ fn check(before: &Board, event: &Event, answer: &Answer, after: &Board) -> Optio
     if answer.number != 0 && answer.number != 2 && before != after {
         return Some("a refusal or rejection changed the board".into());
     }
-    if let Event::NewBoard { w, h } = event {
+    let device = match *event {
+        Event::NewBoard { w, h } => Some((w, h, 1)),
+        Event::GridBoard { w, h, g } => Some((w, h, g)),
+        _ => None,
+    };
+    if let Some((w, h, g)) = device {
         let fresh = after.tasks.is_empty() && after.now == 0 && after.free.len() == 64;
-        let size = if answer.number == 0 { (*w, *h) } else { (0, 0) };
-        return if fresh && (after.w, after.h) == size { None } else { Some("new board is not as asked".into()) };
+        let good = w <= 256 && (1..=1024).contains(&h) && g <= 16 && (1..=256).any(|k| k * g == w && g > 0);
+        let want = if good { (0, (w, h, g)) } else { (2, (0, 0, 0)) };
+        return if fresh && (answer.number, (after.w, after.h, after.g)) == want { None } else { Some("new board is not as asked".into()) };
     }
-    if (before.w, before.h) != (after.w, after.h) {
-        return Some("the board changed its size".into());
+    if (before.w, before.h, before.g) != (after.w, after.h, after.g) {
+        return Some("the board changed its size or grid".into());
     }
     for old in &before.tasks {
         let left = match event {
@@ -371,7 +423,9 @@ enum Question {
 fn told(board: &Board, question: &Question) -> String {
     let mut text = String::new();
     let tasks = |text: &mut String, t: u64| {
-        *text += &format!("{} {} {}\n", board.w, board.h, board.now);
+        // a grid of 1 is not told, as in 01
+        let grid = if board.g == 1 { String::new() } else { format!(" {}", board.g) };
+        *text += &format!("{} {} {}{grid}\n", board.w, board.h, board.now);
         let mut by_slot: Vec<_> = board.tasks.iter().collect();
         by_slot.sort_by_key(|k| k.slot);
         for k in by_slot {
@@ -691,7 +745,7 @@ fn add_summaries(files: &[OsString]) {
     send(&mut sum.print(b"end"));
 }
 
-// ---- self-test: the listing and the cases of document 01, the limit of Q-2, summaries ---------------------------------
+// ---- self-test: the listing and the cases of document 01, the limit of Q-2, the grids of Q-3, summaries ---------------
 
 /// Table 1 of the source: a, e, d, w, h, on 10 x 6.
 const TABLE_1: [(u64, u64, u64, u64, u64); 7] =
@@ -704,6 +758,9 @@ const FULL: u64 = 3;
 
 fn board(w: u64, h: u64) -> Event {
     Event::NewBoard { w, h }
+}
+fn grid_board(w: u64, h: u64, g: u64) -> Event {
+    Event::GridBoard { w, h, g }
 }
 /// A submission of height 1.
 fn submit(planner: u64, id: u64, w: u64, e: u64, d: u64) -> Event {
@@ -1011,6 +1068,88 @@ fn self_test() -> i32 {
         same("best fit", places(&events), "(1,0) (5,0) (6,0) (8,0) (9,0) (6,1)");
     }
 
+    // 8 columns in steps of four
+    let first = |line: &String| line.split(' ').next().unwrap().to_string();
+    let numbers = |events: &[Event]| answers(events).iter().map(first).collect::<Vec<_>>().join(" ");
+    let steps = after(&[grid_board(8, 1, 4)]);
+    let open = |b: &Board, w, after, most| told(b, &Question::Openings { ask: Ask { id: 0, w, h: 1, e: 1, d: 3 }, after, most });
+    same("grid, openings", open(&steps, 4, (0, 0), 1000), "answer 0\n0 1\n0 5\n1 1\n1 5\n2 1\n2 5\nend\n");
+    same("grid, five openings", open(&steps, 4, (0, 0), 5), "answer 0\n0 1\n0 5\n1 1\n1 5\n2 1\nmore\n");
+    for (pair, want) in [((0, 1), "0 5\nmore"), ((0, 2), "0 5\nmore"), ((0, 4), "0 5\nmore"), ((0, 5), "1 1\nmore"), ((0, 6), "1 1\nmore"), ((1, 65_535), "2 1\nmore"), ((2, 0), "2 1\nmore"), ((2, 3), "2 5\nend"), ((2, 5), "end"), ((2, 8), "end"), ((3, 0), "end")] {
+        same(&format!("grid, openings after {pair:?}"), open(&steps, 4, pair, 1), &format!("answer 0\n{want}\n"));
+    }
+    same("grid, openings of all columns", open(&steps, 8, (0, 0), 9), "answer 0\n0 1\n1 1\n2 1\nend\n");
+    for w in [0, 1, 2, 3, 5, 6, 7, 9, 12, 65_535] {
+        same("grid, openings of a width off it", open(&steps, w, (0, 0), 9), "answer 5\n");
+    }
+    let events = [grid_board(12, 1, 4), submit(FULL, 1, 4, 2, 9), submit(FULL, 2, 8, 1, 9), submit(FULL, 3, 12, 1, 9)];
+    same("grid, a live task", open(&after(&events[..2]), 8, (0, 0), 9), "answer 0\n0 5\n1 5\n2 1\n2 5\nend\n");
+    same("grid, two live tasks", open(&after(&events[..3]), 4, (0, 9), 9), "answer 0\n1 5\n1 9\n2 1\n2 5\n2 9\nend\n");
+    same("grid, three live tasks", places(&events), "(1,0) (5,0) (1,2)");
+    same("grid, board", told(&after(&events), &Question::Board), "answer 0\n12 1 0 4\n1 1 4 1 2 9 1 0 2 running\n2 2 8 1 1 9 5 0 1 running\n3 3 12 1 1 9 1 2 3 waiting\n");
+    same("grid, stamp", told(&after(&events[..2]), &Question::Stamp(2)), "answer 0\n12 1 0 4\n1 1 4 1 2 9 1 0 2 ended\n");
+    same("grid, horizon and busy", told(&after(&events[..3]), &Question::Horizon) + &told(&after(&events[..3]), &Question::Busy(1)), "answer 0\n5 12 1\n1 4 2\nanswer 0\n4\n");
+    for (planner, want) in [(REFERENCE, "10"), (HORIZON, "(1,1)"), (STUFFING, "(1,1)"), (FULL, "(1,1)")] {
+        let events = [grid_board(8, 1, 4), submit(planner, 1, 4, 1, 3), submit(planner, 2, 3, 1, 3), submit(planner, 2, 4, 1, 3), submit(planner, 3, 8, 1, 3), submit(planner, 4, 12, 1, 3)];
+        same("grid, steps side by side", places(&events), &format!("(1,0) 5 (5,0) {want} 5"));
+        // best fit in steps: at 1 the run 13-16 is narrower than 1-8
+        let events = [grid_board(20, 1, 4), submit(FULL, 1, 8, 1, 9), submit(FULL, 2, 4, 2, 9), submit(FULL, 3, 4, 1, 9), submit(FULL, 4, 4, 9, 9), clock(1), submit(planner, 5, 4, 1, 9)];
+        let want = if planner == FULL { "(1,1)" } else { "(13,1)" };
+        same("grid, best fit", places(&events), &format!("(1,0) (9,0) (13,0) (17,0) {want}"));
+    }
+    // which devices there are: g from 1 to 16, W a multiple
+    for g in 0..=18 {
+        let divides = [1, 2, 3, 4, 5, 6, 8, 10, 12, 15, 16].contains(&g);
+        let events = [grid_board(240, 1, g), submit(FULL, 1, g, 1, 9), submit(FULL, 2, 240, 1, 9), submit(FULL, 3, g + 1, 1, 9)];
+        let want = match g {
+            1 => "0 0 0 0",
+            _ if divides => "0 0 0 5",
+            _ => "2 1 1 1",
+        };
+        same(&format!("W 240, grid {g}"), numbers(&events), want);
+    }
+    for (w, h, g, want) in [(10, 1, 4, 2), (8, 1, 0, 2), (8, 1, 17, 2), (8, 1, 255, 2), (17, 1, 17, 2), (255, 1, 255, 2), (0, 0, 0, 2), (0, 1, 4, 2), (8, 0, 4, 2), (260, 1, 4, 2), (272, 1, 16, 2), (257, 1, 1, 2), (8, 1_025, 4, 2), (65_535, 65_535, 255, 2), (8, 1, 16, 2), (256, 1, 3, 2), (256, 1_024, 16, 0), (255, 1, 15, 0), (16, 1, 16, 0), (1, 1, 1, 0), (256, 1, 1, 0)] {
+        let events = [grid_board(12, 1, 3), clock(7), grid_board(w, h, g), withdraw(1), clock(0), clock(8), submit(FULL, 1, 16, 1, 9)];
+        let said = numbers(&events);
+        let size = told(&after(&events[..3]), &Question::Board);
+        if want == 2 {
+            same("a refused grid", format!("{said} {size}"), "0 0 2 1 1 1 1 answer 1\n");
+        } else {
+            let fourth = if g == 1 { String::new() } else { format!(" {g}") };
+            let last = match (w, g) {
+                (1, _) | (_, 15) => 5,
+                _ => 0,
+            };
+            same("a grid", format!("{said} {size}"), &format!("0 0 0 13 0 0 {last} answer 0\n{w} {h} 0{fourth}\n"));
+        }
+    }
+    let mut events = vec![grid_board(256, 2, 16)];
+    events.extend((1..=16).map(|id| submit(REFERENCE, id, 16, 2, 9)));
+    events.extend([submit(REFERENCE, 17, 16, 2, 9), submit(STUFFING, 17, 16, 2, 9), submit(FULL, 18, 240, 2, 9), submit(FULL, 19, 8, 2, 9), submit(FULL, 19, 256, 2, 9)]);
+    let side_by_side: Vec<String> = (0..16).map(|k| format!("({},0)", 1 + 16 * k)).collect();
+    same("W 256, grid 16", places(&events), &format!("{} 10 (1,2) (17,2) 5 (1,4)", side_by_side.join(" ")));
+    // off the grid beside other causes: 3 and 4 before 5, all others after; 64 are live
+    let mut events = vec![grid_board(256, 1, 4)];
+    events.extend((1..=64).map(|id| submit(STUFFING, id, 4, 5, 5)));
+    for (planner, id, e, d) in [(4, 65, 1, 9), (3, 0, 1, 9), (3, 65, 0, 9), (3, 64, 1, 9), (3, 65, 10, 9), (3, 65, 1, 20_000_000), (3, 65, 1, 9)] {
+        events.extend([submit(planner, id, 6, e, d), submit(planner, id, 8, e, d)]);
+    }
+    let said = numbers(&events);
+    same("off the grid, and more", said.split(' ').skip(65).collect::<Vec<_>>().join(" "), "3 3 4 4 5 6 5 7 5 8 5 18 5 9");
+    // the grid lasts until the next board, and a grid of 1 is kind 1's in all but the record
+    let events = [grid_board(8, 1, 4), submit(FULL, 1, 2, 1, 9), board(8, 1), submit(FULL, 1, 2, 1, 9), grid_board(8, 1, 2), submit(FULL, 1, 3, 1, 9), submit(FULL, 1, 2, 1, 9), grid_board(8, 1, 1), submit(FULL, 1, 3, 1, 9)];
+    same("one board after the other", numbers(&events), "0 5 0 0 0 5 0 0 0");
+    same("grid 1 is not told", told(&after(&events), &Question::Board), "answer 0\n8 1 0\n1 1 3 1 1 9 1 0 1 running\n");
+    for planner in 0..4 {
+        let events = table_1(planner, planner, 20);
+        let with_grid: Vec<Event> = events.iter().map(|e| if let Event::NewBoard { w, h } = *e { grid_board(w, h, 1) } else { *e }).collect();
+        same("Table 1 by kind 5", printed_bytes(&recorded(&with_grid)).0, &printed_bytes(&recorded(&events)).0.replace("\n1 1 0", "\n1 5 0"));
+        assert!(after(&with_grid) == after(&events));
+    }
+    let bytes_of = |event: Event| format!("{:?}", recorded(&[event]));
+    same("record of kind 5", bytes_of(grid_board(258, 1_024, 1)) + &bytes_of(grid_board(0, 65_535, 255)), "[5, 2, 1, 0, 4, 1][5, 0, 0, 255, 255, 255]");
+    same("record of kind 5, read and written", bytes_of(Event::parse(5, &[2, 1, 0, 4, 1])) + &bytes_of(Event::parse(5, &[8, 0, 1, 0, 16])), "[5, 2, 1, 0, 4, 1][5, 8, 0, 1, 0, 16]");
+
     // endings
     let with = |tail: &[u8]| {
         let mut bytes = recorded(&[board(4, 1), clock(1)]);
@@ -1019,14 +1158,14 @@ fn self_test() -> i32 {
     };
     same("end", with(&[]), "");
     same("no byte at all", printed_bytes(&[]).0, "event kind answer column start finish\n");
-    for kind in [1u8, 2, 3, 4] {
+    for kind in [1u8, 2, 3, 4, 5] {
         for have in 0..body_length(kind).unwrap() {
             let mut tail = vec![kind];
             tail.resize(1 + have, 0xff);
             same("cut short", with(&tail), &format!("3 {kind} 15 0 0 0"));
         }
     }
-    for kind in [0u8, 5, 6, 128, 255] {
+    for kind in [0u8, 6, 7, 128, 255] {
         same("unknown kind", with(&[kind]), &format!("3 {kind} 16 0 0 0"));
         same("unknown kind, bytes after", with(&[kind, 3, 9, 0, 0, 0]), &format!("3 {kind} 16 0 0 0"));
     }
@@ -1111,6 +1250,7 @@ events 0 files 1 stop end
     same("refused with 9", one(&crowd), "reference A 1 0 0 1 0 0/1,horizon B 1 0 0 1 0 0/1,stuffing Other 64 64 0 0 0 64/64,full Other 1 0 0 1 0 0/1,refused without class 1,events 69 files 1 stop end");
     crowd.extend([submit(REFERENCE, 65, 1, 10, 10_000_011), submit(FULL, 65, 1, 10, 2_000_000_000), submit(FULL, 65, 1, 10, 10_000_010), submit(FULL, 64, 1, 10, 10_000_011)]);
     same("refused with 9 and 18", one(&crowd), "reference A 1 0 0 1 0 0/1,reference Other 1 0 0 1 0 0/1,horizon B 1 0 0 1 0 0/1,stuffing Other 64 64 0 0 0 64/64,full Other 3 0 0 3 0 0/3,refused without class 2,events 73 files 1 stop end");
+    same("kind 5 is no submission", one(&[submit(FULL, 1, 4, 5, 9), clock(9), grid_board(8, 1, 4), clock(30), grid_board(8, 1, 17), submit(FULL, 1, 4, 5, 9), grid_board(8, 1, 4), submit(FULL, 1, 3, 5, 9), submit(FULL, 1, 8, 5, 60), submit(FULL, 2, 8, 5, 60)]), "full B 2 2 0 0 5 2/2,refused without class 3,events 10 files 1 stop end");
     let events = [board(4, 1), submit(FULL, 1, 4, 5, 9), submit(FULL, 2, 4, 4, 99), withdraw(2), withdraw(2), withdraw(1), clock(3), clock(2), clock(4_000_000_000), submit(FULL, 2, 4, 4, 99)];
     same("withdrawn", one(&events), "full A 1 1 0 0 0 1/1,full B 2 2 0 0 7 2/2,refused without class 0,events 10 files 1 stop end");
     // stops

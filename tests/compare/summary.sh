@@ -10,13 +10,14 @@
 #     LIMIT=1          tries the stop at 1,000,000,000 events too (a minute or two for a program at full speed)
 #
 # Each recording is summed up as one file, on standard input (by turns a file, a pipe, pieces of 37 bytes) and among 2 to 5
-# files: with the last bytes cut off, with a byte of no kind behind them, without the first new board, empty, the same file
-# twice. What is printed must be equal; standard error must have a message where the second program stops at 15 or 16, and be
-# empty otherwise. Then --add: sums of the summaries must be the second program's and the summary of all files at once; wrong
-# summaries (a byte changed, a line left out, a stop that is no end, cut, empty, figures past 64 bits) must be judged as the
-# second program judges them: nothing printed, a message that names the file and the line. So with a file that is not there and
-# with a folder. No status is looked at. Ends with 0 if all is as it has to be; with 1 at the first difference, and keeps the
-# files and both outputs in the temporary folder that it names; with 2 for a wrong call or if the second program itself fails.
+# files: with the last bytes cut off, with a byte of no kind or a kind without its body behind them, without the first new
+# board (of kind 1 or 5), empty, the same file twice. What is printed must be equal; standard error must have a message where
+# the second program stops at 15 or 16, and be empty otherwise. Then --add: sums of the summaries must be the second program's
+# and the summary of all files at once; wrong summaries (a byte changed, a line left out, a stop that is no end, cut, empty,
+# figures past 64 bits) must be judged as the second program judges them: nothing printed, a message that names the file and
+# the line. So with a file that is not there and with a folder. No status is looked at. Ends with 0 if all is as it has to be;
+# with 1 at the first difference, and keeps the files and both outputs in the temporary folder that it names; with 2 for a
+# wrong call or if the second program itself fails.
 set -u
 here=$(cd "$(dirname "$0")" && pwd -P)
 fail() { echo "summary.sh: $*" >&2; exit 2; }
@@ -214,7 +215,7 @@ wrong_sum() { # NAME KIND
 }
 kinds=(byte byte byte digit digit left-out twice swapped stop cut empty zeros sign ratio count past text large large edge)
 
-profiles=(tiny paper wide crowded late bounds lax cut mixed)
+profiles=(tiny paper wide crowded late bounds lax grid cut mixed)
 declare -A well
 for ((r = 0; r < recordings; r++)); do
     profile=${profiles[$((r % ${#profiles[@]}))]}
@@ -225,10 +226,13 @@ for ((r = 0; r < recordings; r++)); do
     "$work/generate" "$profile" $((seed + r)) "$count" >"$name" || fail "the generator failed"
     case $((RANDOM % 12)) in
         0) size=$(wc -c <"$name"); [ "$size" -lt 6 ] || truncate -s $((size - 1 - RANDOM % 5)) "$name" ;;
-        1) printf "\\x$(printf %02x "$(one_of 0 5 9 255)")" >>"$name" ;;
+        1) printf "\\x$(printf %02x "$(one_of 0 5 6 9 255)")" >>"$name" ;;
         2) [ $((RANDOM % 3)) -ne 0 ] || : >"$name" ;;
         3 | 4) # without its new board, so that a board left by the file before would show
-            if [ "$(head -c 1 "$name" | od -An -tu1 | tr -d ' ')" = 1 ]; then tail -c +6 "$name" >"$work/later" && mv "$work/later" "$name"; fi ;;
+            case $(head -c 1 "$name" | od -An -tu1 | tr -d ' ') in
+                1) tail -c +6 "$name" >"$work/later" && mv "$work/later" "$name" ;;
+                5) tail -c +7 "$name" >"$work/later" && mv "$work/later" "$name" ;;
+            esac ;;
     esac
 
     # one file; what stands on standard input is not read then
@@ -255,7 +259,7 @@ for ((r = 0; r < recordings; r++)); do
     case $((RANDOM % 8)) in
         0) : >empty; chosen+=(empty); [ $((RANDOM % 2)) -eq 0 ] || chosen=(empty "${chosen[@]}") ;;
         1) chosen+=("${chosen[0]}") ;;
-        2) { cat "${chosen[0]}"; printf "\\x$(printf %02x "$(one_of 0 5 128 255)")"; } >marred; chosen=("${chosen[@]:1:1}" marred "${chosen[@]:2}") ;;
+        2) { cat "${chosen[0]}"; printf "\\x$(printf %02x "$(one_of 0 5 6 128 255)")"; } >marred; chosen=("${chosen[@]:1:1}" marred "${chosen[@]:2}") ;;
         3) size=$(wc -c <"${chosen[0]}"); head -c $((size < 2 ? size : size - 1 - RANDOM % (size < 18 ? size - 1 : 17))) "${chosen[0]}" >marred; chosen=("${chosen[@]:1:1}" marred "${chosen[@]:2}") ;;
     esac
     input=$(one_of /dev/null /dev/null "$name")

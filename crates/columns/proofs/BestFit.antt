@@ -121,6 +121,13 @@ unfolding bestFit
 best-sorted w f c n =
     sort-sorted better better-trans (sorted-by Gap (λ r q. Better r q ⊎ Better q r) told (sorted-keep Gap (λ r. leb w (r .size)) (runs-sorted f c n)))
 
+-- and so of some of the runs
+pub best-kept : (w : ℕ) (p : Run → Bool) (f : ℕ → Bool) (c n : ℕ) → Sorted Better (bestFit w (keep p (runs f (range c n))))
+unfolding bestFit
+best-kept w p f c n =
+    sort-sorted better better-trans
+    (sorted-by Gap (λ r q. Better r q ⊎ Better q r) told (sorted-keep Gap (λ r. leb w (r .size)) (sorted-keep Gap p (runs-sorted f c n))))
+
 -- so, on a device of at most 256 columns, BY RISING KEY
 pub best-rising : (w : ℕ) (f : ℕ → Bool) {W : ℕ} → W ≤ 256 → Sorted (λ r q. key r < key q) (bestFit w (runs f (columns W)))
 best-rising w f {W} small =

@@ -122,7 +122,7 @@ runs-begin g W f ends = keep-all (λ r. mayBegin g (r .left)) (runs f (columns W
 
 module _ {g W : ℕ} {ts : List Task} (now : ℕ) (a : Submission) (o : Stepped g W (a .w) ts) where
   -- EVERY INTERVAL FREE AT A TIME begins on the grid
-  free-begin : (i : ℕ) → onGrid g (runs (free ts i) (columns W)) ≡ runs (free ts i) (columns W)
+  pub free-begin : (i : ℕ) → onGrid g (runs (free ts i) (columns W)) ≡ runs (free ts i) (columns W)
   unfolding free
   free-begin i = runs-begin g W (free ts i) ends
     where
@@ -136,7 +136,7 @@ module _ {g W : ℕ} {ts : List Task} (now : ℕ) (a : Submission) (o : Stepped 
           (holds-in i (suc c) (u .it) (record { started = h .started; unfinished = h .unfinished; left = k .0; right = k .1 }))))
 
   -- and so does every run of columns released by it
-  released-begin : (i : ℕ) → onGrid g (runs (λ c. leb (release now ts c) i) (columns W)) ≡ runs (λ c. leb (release now ts c) i) (columns W)
+  pub released-begin : (i : ℕ) → onGrid g (runs (λ c. leb (release now ts c) i) (columns W)) ≡ runs (λ c. leb (release now ts c) i) (columns W)
   unfolding release
   released-begin i = runs-begin g W (λ c. leb (release now ts c) i) (λ c x y. ends c (leb→le (release now ts (suc c)) i y) (λ h. T-not (leb (release now ts c) i) x (le→leb (release now ts c) i h)) (highest-one now (map finish (keep (covers c) ts))))
     where

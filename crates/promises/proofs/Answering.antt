@@ -18,7 +18,7 @@ use Rattle.tasks.specs.declared.Submission.{Submission}
 use Rattle.tasks.specs.Numbers.{within, sizeFits, timeFits, lastInstant, longest, lastPlanner, mostTasks}
 use Rattle.laxity.specs.Laxity.{laxity, mostLaxity}
 use Rattle.tasks.specs.Tasks.{live}
-use Rattle.tasks.proofs.Laws.{within-in}
+use Rattle.tasks.proofs.Laws.{within-in, size-in}
 use Rattle.planners.specs.Openings.{Place, full}
 use Rattle.planners.specs.Planners.{planned}
 use Rattle.planners.proofs.Openings.{Before, earlier, lower, full-takes-one, full-opens, full-first}
@@ -45,7 +45,7 @@ pub record Allows (b : Board) (a : Submission) : Type 0 where
 pub allowed : (b : Board) (n : ℕ) (a : Submission) → n ≤ lastPlanner → SoundBoard b → Reachable b a → Allows b a → refusedSubmit b n a ≡ 0
 unfolding refusedSubmit known
 allowed b n a h s k o =
-    let sized = and-i (within 1 (b .device .columns) (a .w)) (within 1 (b .device .rows) (a .h)) (within-in 1 (b .device .columns) (a .w) (k .w)) (within-in 1 (b .device .rows) (a .h) (k .h)) in
+    let sized = size-in (b .device) (a .w) (a .h) (record { width = k .w; height = k .h; stepped = k .stepped }) in
     let timed = and-i (within 1 longest (a .e)) (leb (a .d) lastInstant) (within-in 1 longest (a .e) (k .e)) (le→leb (a .d) lastInstant (k .d)) in
     sound-passes (soundBoard b) _ (is-true (soundBoard b) (sound-in (b .device) (b .now) (b .tasks) s))
     ∙ passed-over 3 (ltb lastPlanner n) _ (le-ltb lastPlanner n h)
@@ -74,13 +74,13 @@ module _ (b : Board) (a : Submission) where
 
   module _ (r : refusedSubmit b 3 a ≡ 0) where
     -- the answer, where Full's place is known
-    answer-of : (o : Option Place) → full (b .device .columns) (b .now) (liveOf b) a ≡ o → submitted b 3 a .answer ≡ taken b a o .answer
+    answer-of : (o : Option Place) → full (b .device .grid) (b .device .columns) (b .now) (liveOf b) a ≡ o → submitted b 3 a .answer ≡ taken b a o .answer
     unfolding planned
     answer-of o e = ap (λ x. x .answer) (accepted-answered b 3 a r ∙ ap (taken b a) e)
 
     -- FULL TAKES THE FIRST OPENING
     pub takes-full : (p : Place) → FirstOpening b a p → submitted b 3 a .answer ≡ Placed (p .place) (p .start) (p .start + a .e)
-    takes-full p o = by (full-takes-one (b .device .columns) (b .now) (liveOf b) a p (o .opens))
+    takes-full p o = by (full-takes-one (b .device .grid) (b .device .columns) (b .now) (liveOf b) a p (o .opens))
       where
         both : (q : Place) → (p ≡ q) ⊎ Before q p → (q ≡ p) ⊎ Before p q → q ≡ p
         both q (inl z) y = sym z
@@ -90,25 +90,25 @@ module _ (b : Board) (a : Submission) where
         both q (inr (lower x g)) (inr (earlier h)) = absurd (omega arith)
         both q (inr (lower x g)) (inr (lower y h)) = absurd (omega arith)
 
-        by : (q : Place) × (full (b .device .columns) (b .now) (liveOf b) a ≡ some q) → submitted b 3 a .answer ≡ Placed (p .place) (p .start) (p .start + a .e)
+        by : (q : Place) × (full (b .device .grid) (b .device .columns) (b .now) (liveOf b) a ≡ some q) → submitted b 3 a .answer ≡ Placed (p .place) (p .start) (p .start + a .e)
         by (q, e) =
-            let l = full-first (b .device .columns) (b .now) (liveOf b) a q p e (o .opens) in
-            let m = o .first q (full-opens (b .device .columns) (b .now) (liveOf b) a q e) in
+            let l = full-first (b .device .grid) (b .device .columns) (b .now) (liveOf b) a q p e (o .opens) in
+            let m = o .first q (full-opens (b .device .grid) (b .device .columns) (b .now) (liveOf b) a q e) in
             unfold taken in answer-of (some p) (e ∙ ap some (both q l m))
 
     -- where there is an opening there is a first one, and it is placed there
     pub full-places : (q : Place) → IsOpening b a q → (p : Place) × FirstOpening b a p × (submitted b 3 a .answer ≡ Placed (p .place) (p .start) (p .start + a .e))
     unfolding taken
     full-places q o =
-        let f = full-takes-one (b .device .columns) (b .now) (liveOf b) a q o in
+        let f = full-takes-one (b .device .grid) (b .device .columns) (b .now) (liveOf b) a q o in
         let p = f .0 in
-        let opens = full-opens (b .device .columns) (b .now) (liveOf b) a p (f .1) in
-        (p, record { opens = opens; first = λ x y. full-first (b .device .columns) (b .now) (liveOf b) a p x (f .1) y }, answer-of (some p) (f .1))
+        let opens = full-opens (b .device .grid) (b .device .columns) (b .now) (liveOf b) a p (f .1) in
+        (p, record { opens = opens; first = λ x y. full-first (b .device .grid) (b .device .columns) (b .now) (liveOf b) a p x (f .1) y }, answer-of (some p) (f .1))
 
     -- AND REJECTS where there is none
     pub rejects-full : ((p : Place) → IsOpening b a p → ⊥) → submitted b 3 a .answer ≡ Rejected
-    rejects-full g = go (full (b .device .columns) (b .now) (liveOf b) a) refl
+    rejects-full g = go (full (b .device .grid) (b .device .columns) (b .now) (liveOf b) a) refl
       where
-        go : (o : Option Place) → full (b .device .columns) (b .now) (liveOf b) a ≡ o → submitted b 3 a .answer ≡ Rejected
+        go : (o : Option Place) → full (b .device .grid) (b .device .columns) (b .now) (liveOf b) a ≡ o → submitted b 3 a .answer ≡ Rejected
         go none e = unfold taken in answer-of none e
-        go (some q) e = absurd (g q (full-opens (b .device .columns) (b .now) (liveOf b) a q e))
+        go (some q) e = absurd (g q (full-opens (b .device .grid) (b .device .columns) (b .now) (liveOf b) a q e))

@@ -26,7 +26,7 @@ use Rattle.board.proofs.Asking.{given, IsOpening, not-refused, given-first, mor
 module _ (b : Board) (a : Submission) where
   -- the list of openings of document 01, by start and then column
   abbrev pub allOpenings : List Place
-  allOpenings = openings (b .device .columns) (b .now) (liveOf b) a
+  allOpenings = openings (b .device .grid) (b .device .columns) (b .now) (liveOf b) a
 
   -- the answer to a request after the pair p with a lent buffer
   abbrev pub reply : Place → List ℕ → Opened
@@ -67,7 +67,7 @@ module _ (b : Board) (a : Submission) (s : SoundBoard b) (k : Reachable b a) whe
   -- what comes after the last pair given is what is left
   after-given : (p : Place) (buffer : List ℕ) → left (lastOr p (given b a p buffer)) ≡ drop (length buffer / 2) (left p)
   unfolding remaining
-  after-given p buffer = ap (λ ps. left (lastOr p ps)) (given-first b a s k p buffer) ∙ after-last (b .device .columns) (b .now) (liveOf b) a (length buffer / 2) p
+  after-given p buffer = ap (λ ps. left (lastOr p ps)) (given-first b a s k p buffer) ∙ after-last (b .device .grid) (b .device .columns) (b .now) (liveOf b) a (length buffer / 2) p
 
   -- THE ANSWER: number 0, as many as are given, and the same board
   pub reply-answers : (p : Place) (buffer : List ℕ)
@@ -197,7 +197,7 @@ module _ (b : Board) (a : Submission) (s : SoundBoard b) (k : Reachable b a) whe
   -- from (0, 0) on
   pub from-none : remaining b a 0 0 ≡ allOpenings b a
   unfolding remaining
-  from-none = after-none (b .device .columns) (b .now) (liveOf b) a
+  from-none = after-none (b .device .grid) (b .device .columns) (b .now) (liveOf b) a
 
   pub asking-gives-all : (buffers : List (List ℕ)) → Roomy buffers → length (allOpenings b a) ≤ length buffers → askingOn b a (pair 0 0) buffers ≡ allOpenings b a
   asking-gives-all buffers r l = on-gives (pair 0 0) buffers r (rw from-none l) ∙ from-none

@@ -69,6 +69,10 @@ Rises rows = T (pairwise? ltb (numbers rows))
 abbrev pub Outside : ℕ → ℕ → ℕ → Type 0
 Outside lo hi n = (n < lo) ⊎ (hi < n)
 
+-- n is a multiple of g: so many steps
+abbrev pub Steps : ℕ → ℕ → Type 0
+Steps g n = (k : ℕ) × (n ≡ k * g)
+
 -- a live task of the id n
 pub record LiveTask (b : Board) (n : ℕ) : Type 0 where
   pub task : Task
@@ -80,9 +84,9 @@ pub record LiveTask (b : Board) (n : ℕ) : Type 0 where
 abbrev pub not-sound : Board → Row
 not-sound b = 1 when (SoundBoard b → ⊥)
 
--- "5 width or height out of range"
+-- "5 width or height out of range"; document 02, Q-3: "5 also for a width that is not [a multiple]"
 abbrev pub bad-size : Board → Submission → Row
-bad-size b a = 5 when (Outside 1 (b .device .columns) (a .w) ⊎ Outside 1 (b .device .rows) (a .h))
+bad-size b a = 5 when ((Outside 1 (b .device .columns) (a .w) ⊎ Outside 1 (b .device .rows) (a .h)) ⊎ (Steps (b .device .grid) (a .w) → ⊥))
 
 -- "6 e or d out of range"
 abbrev pub bad-time : Submission → Row
@@ -96,9 +100,9 @@ too-late b a = 8 when (a .d < b .now + a .e)
 abbrev pub too-lax : Board → Submission → Row
 too-lax b a = 18 when (b .now + a .e + 10000000 < a .d)
 
--- "2 new board: W or H out of range"
-abbrev pub new-board-rows : ℕ → ℕ → List Row
-new-board-rows W H = (2 when (Outside 1 256 W ⊎ Outside 1 1024 H)) ∷ []
+-- "2 new board: W or H out of range"; document 02, Q-3: "2 also for g out of range or W not a multiple"
+abbrev pub new-board-rows : ℕ → ℕ → ℕ → List Row
+new-board-rows W H g = (2 when (((Outside 1 256 W ⊎ Outside 1 1024 H) ⊎ Outside 1 16 g) ⊎ (Steps g W → ⊥))) ∷ []
 
 -- "Submission tests 1 and 3 to 10", and 18 "after 8 and before 9": "3 planner is not 0 to 3", "4 submitted id is 0", "7 id is live already", "9 64 tasks are live"; 10 is no refusal
 abbrev pub submission-rows : Board → ℕ → Submission → List Row

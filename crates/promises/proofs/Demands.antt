@@ -1,24 +1,28 @@
 -- THE THREE DEMANDS, theorem by theorem. Each call's promise is one equation to the book (docs/PROMISES.md): what is said here of the book is said of the calls. Assumes nothing.
-use Prim.Native.Nat.{ℕ, _/_, _≤_, _<_, _+_}
-use mathlib.Core.Path.{_≡_, refl}
+use Prim.Native.Nat.{ℕ, _/_, _≤_, _<_, _+_, _-_}
+use mathlib.Core.Path.{_≡_, refl, _∙_}
 use mathlib.Core.Logic.{_⊎_}
-use mathlib.Core.Bool.{false, true}
-use mathlib.Core.List.{List, [], _++_, _∷_}
+use mathlib.Core.Bool.{false, true, _&&_}
+use mathlib.Core.List.{List, [], _++_, _∷_, map}
 use native.Mathlib.Omega.{arith}
 use lib.ListN.{length, take, drop, getD, replicate}
-use lib.Dec.{T, eqb}
-use Rattle.lists.specs.Lists.{_∈_, head?, lastOr, some?, pairwise?, all?, overFront}
+use lib.Dec.{T, leb, eqb}
+use Rattle.lists.specs.Lists.{_∈_, keep, head?, lastOr, some?, pairwise?, all?, overFront}
+use Rattle.lists.proofs.Append.{and-true}
 use Rattle.lists.proofs.Members.{pass-some}
 use Rattle.lists.proofs.Order.{Sorted}
 use Rattle.ways.specs.Ways.{pair}
 use Rattle.tasks.specs.declared.Task.{Task}
 use Rattle.tasks.specs.declared.Submission.{Submission}
 use Rattle.tasks.specs.Tasks.{finish, freeSlot, stamped, stampedAll}
-use Rattle.tasks.specs.Numbers.{device, lastPlanner}
+use Rattle.tasks.specs.Numbers.{lastPlanner, within, mayBegin, device, deviceFits, sizeFits}
+use Rattle.tasks.proofs.Grid.{multiple-one, begin-one}
 use Rattle.tasks.proofs.Laws.{Holds}
-use Rattle.columns.specs.Columns.{Run}
+use Rattle.columns.specs.Columns.{columns, Run, runs, bestFit}
+use Rattle.columns.proofs.Runs.{Longest}
 use Rattle.planners.specs.Openings.{Place, pairNumbers}
-use Rattle.planners.specs.Planners.{release, free}
+use Rattle.planners.specs.Planners.{release, free, leftEdge, clearOfWaiting, candidates, releasedEdges, planned}
+use Rattle.planners.proofs.Grid.{candidates-one, released-one}
 use Rattle.planners.proofs.Openings.{Before, listed-opens, opens-listed, openings-ordered}
 use Rattle.slots.proofs.Soundness.{sound-out, sound-in}
 use Rattle.board.specs.declared.Board.{Board}
@@ -32,6 +36,7 @@ use Rattle.board.specs.declared.Answer.the-variants.{Placed, Rejected, Refused}
 use Rattle.board.specs.Refusals.{liveOf, refusedSubmit, refusedCreate, refusedInstant, refusedWithdraw, refusedOpenings, refusedHorizon, soundBoard}
 use Rattle.board.specs.Calls.{taken, submitted, clocked, withdrawn, remaining, opened, openedBuffer, listed, listedBuffer, counted, freshBoard, created}
 use Rattle.board.proofs.Kept.{SoundBoard}
+use Rattle.board.proofs.OnGrid.{free-run-begins, released-run-begins, board-planned}
 use Rattle.board.proofs.Window.{Reachable}
 use Rattle.board.proofs.Placed.{full-rejected, placed-books, placed-opens}
 use Rattle.board.proofs.Asking.{given, IsOpening, given-first, left-opens, opens-left, left-ordered, none-missed, full-takes-given}
@@ -44,11 +49,11 @@ use Rattle.events.proofs.RoundTrip.{Fits, Bytes, read-written, written-again}
 use Rattle.events.specs.declared.Reading.{Reading}
 use Rattle.events.specs.declared.Written.the-variants.{NoRoom, Length}
 use Rattle.events.proofs.Writing.{short-answer, short-buffer, room-answer, room-buffer}
-use Rattle.promises.proofs.Clauses.{Any, Row, First, Clear, Given, Holding, numbers, Rises, Reads, too-lax, new-board-rows, submission-rows, instant-rows, withdrawal-rows, openings-rows}
+use Rattle.promises.proofs.Clauses.{Any, Row, First, Clear, Given, Holding, numbers, Rises, Steps, Reads, too-lax, new-board-rows, submission-rows, instant-rows, withdrawal-rows, openings-rows}
 use Rattle.promises.proofs.Clauses.{horizon-rows, Books, Ages, Removes, ListsRuns, CountsHeld, Stamps}
 use Rattle.promises.proofs.Following.{books, books-nothing, ages, removes, lists-runs, counts-held, opened-board, stamps, stamps-all, buffer-reads-back, buffer-written-again}
 use Rattle.promises.proofs.Settled.{books-settled, ages-settled, removes-settled, runs-settled, held-settled, stamps-settled}
-use Rattle.promises.proofs.Refusing.{first-refused, clear-done, told-given, given-once, clear-first, first-before, first-lowest, refused-first, what-reads, reads-that, decides-new-board}
+use Rattle.promises.proofs.Refusing.{first-refused, clear-done, told-given, given-once, clear-first, first-before, first-lowest, refused-first, steps-out, steps-in, what-reads, reads-that, decides-new-board}
 use Rattle.promises.proofs.Refusing.{decides-submission, decides-instant, decides-withdrawal, decides-openings, decides-horizon}
 use Rattle.promises.proofs.AskingOn.{allOpenings, reply, askingOn, saidMore, Roomy, ordered-once, from-none, reply-answers, reply-writes, more-true, more-false, asking-gives-all}
 use Rattle.promises.proofs.AskingOn.{asking-ends, asked-to-end}
@@ -56,6 +61,7 @@ use Rattle.promises.proofs.Published.{AnswersAs, FreeRun, ReleasedRun, 
 use Rattle.promises.proofs.Published.{release-last, free-run-opens, released-run-opens}
 use Rattle.promises.proofs.Answering.{Allows, allowed, FirstOpening, full-taken, takes-full, full-places, rejects-full}
 use Rattle.board.proofs.Board.new.Reads as new
+use Rattle.board.proofs.Board.with_grid.Reads as with-grid
 use Rattle.board.proofs.Board.is_sound.Reads as is-sound
 use Rattle.board.proofs.Board.submit.Reads as submit
 use Rattle.board.proofs.Board.clock.Reads as clock
@@ -70,12 +76,12 @@ use Rattle.events.proofs.write.Reads as write
 
 -- DEMAND 1. "Every call takes any board, task, instant or buffer and ends": a caller has nothing to show (`X.Asked` is the `requires` of X as they
 -- stand in the code; `stamp_all`, walked by hand, has no `Asked` to read, and no `requires`), and each call is proved to end.
-pub demand-1-takes-any : Any new.Asked × Any is-sound.Asked × Any submit.Asked × Any clock.Asked × Any withdraw.Asked × Any openings-call.Asked × Any horizon-call.Asked
+pub demand-1-takes-any : Any new.Asked × Any with-grid.Asked × Any is-sound.Asked × Any submit.Asked × Any clock.Asked × Any withdraw.Asked × Any openings-call.Asked × Any horizon-call.Asked
     × Any busy.Asked × Any stamp.Asked × Any read.Asked × Any read-at.Asked × Any write.Asked
 demand-1-takes-any =
-    (λ κs a. tt, λ κs a. tt, λ κs a. tt, λ κs a. tt, λ κs a. tt, λ κs a. tt, λ κs a. tt, λ κs a. tt, λ κs a. tt, λ κs a. tt, λ κs a. tt, λ κs a. tt)
+    (λ κs a. tt, λ κs a. tt, λ κs a. tt, λ κs a. tt, λ κs a. tt, λ κs a. tt, λ κs a. tt, λ κs a. tt, λ κs a. tt, λ κs a. tt, λ κs a. tt, λ κs a. tt, λ κs a. tt)
 
--- "Bad input gets the refusal number that document 01 fixes, in its order of checks" (18 is document 02's); "a refusal hands the board back as it came and writes nothing
+-- "Bad input gets the refusal number that document 01 fixes, in its order of checks" (18, and what the grid adds to 2 and 5, are document 02's); "a refusal hands the board back as it came and writes nothing
 -- to a lent buffer." Each call's rows stand in Clauses: a number and when exactly it is given, in the order of its checks. `First rows k`: the first
 -- row that holds has the number k. `Clear rows`: none holds. `Given rows k`: k is the number of the first that holds, or 0 where none does.
 -- The first row that holds gives the whole answer:
@@ -106,10 +112,10 @@ unfolding counted refusedInstant
 demand-1-busy b i f = first-refused _ _ (decides-instant b i) f
 
 -- "A refused new board is a board of zeros"
-pub demand-1-new-board : (W H : ℕ) {k : ℕ} → First (new-board-rows W H) k
-    → created W H ≡ record { number = k; board = record { tasks = replicate 64 freeSlot; now = 0; device = device 0 0 } }
+pub demand-1-new-board : (W H g : ℕ) {k : ℕ} → First (new-board-rows W H g) k
+    → created W H g ≡ record { number = k; board = record { tasks = replicate 64 freeSlot; now = 0; device = device 0 0 0 } }
 unfolding created refusedCreate freshBoard
-demand-1-new-board W H f = first-refused _ _ (decides-new-board W H) f
+demand-1-new-board W H g f = first-refused _ _ (decides-new-board W H g) f
 
 -- and nothing else gives a number: that of any answer is the number of the first row that holds, or 0 where none does
 pub demand-1-submission-only : (b : Board) (n : ℕ) (a : Submission) (k : ℕ) → submitted b n a .answer ≡ Refused k → First (submission-rows b n a) k
@@ -138,9 +144,9 @@ pub demand-1-busy-only : (b : Board) (i : ℕ) → Given (instant-rows b i) (cou
 unfolding counted refusedInstant
 demand-1-busy-only b i = told-given _ _ (decides-instant b i) (λ (r : Counted). r .number) refl (λ k. refl)
 
-pub demand-1-new-board-only : (W H : ℕ) → Given (new-board-rows W H) (created W H .number)
+pub demand-1-new-board-only : (W H g : ℕ) → Given (new-board-rows W H g) (created W H g .number)
 unfolding created refusedCreate
-demand-1-new-board-only W H = told-given _ _ (decides-new-board W H) (λ (r : Created). r .number) refl (λ k. refl)
+demand-1-new-board-only W H g = told-given _ _ (decides-new-board W H g) (λ (r : Created). r .number) refl (λ k. refl)
 
 -- the number that is told of a submission: "Column, start and finish are 0 unless the answer is 0"; 10 is the rejection
 pub demand-1-submission-told : (k c s f : ℕ) → (told (Refused k) ≡ record { number = k; column = 0; start = 0; finish = 0 })
@@ -251,12 +257,48 @@ demand-2-near b n a e =
     let k = placed-books b n a refl e .accepted in
     omega (arith, placed-opens b n a e .0 .in-time, k .reachable, k .lax)
 
+-- THE GRID (document 02, Q-3): "a task may begin only where c − 1 is a multiple of g"
+pub demand-2-grid : (g c : ℕ) → (T (mayBegin g c) → Steps g (c - 1)) × (Steps g (c - 1) → T (mayBegin g c))
+unfolding mayBegin
+demand-2-grid g c = (steps-out g (c - 1), steps-in g (c - 1))
+
+-- on a sound board every run of free columns, and of released ones, begins on the grid, so that no run is passed over for it ..
+pub demand-2-free-begins : (b : Board) → SoundBoard b → (t : ℕ) (r : Run) → Longest (free (liveOf b) t) 1 (b .device .columns) r → T (mayBegin (b .device .grid) (r .left))
+demand-2-free-begins = free-run-begins
+
+pub demand-2-released-begins : (b : Board) → SoundBoard b → (t : ℕ) (r : Run) → Longest (λ c. leb (release (b .now) (liveOf b) c) t) 1 (b .device .columns) r
+    → T (mayBegin (b .device .grid) (r .left))
+demand-2-released-begins = released-run-begins
+
+-- .. and every planner answers as with g = 1
+pub demand-2-as-one : (b : Board) (a : Submission) → SoundBoard b → Steps (b .device .grid) (a .w) → (n : ℕ)
+    → planned (b .device .grid) (b .device .columns) (b .now) (liveOf b) a n ≡ planned 1 (b .device .columns) (b .now) (liveOf b) a n
+demand-2-as-one b a s h n = board-planned b a s (steps-in (b .device .grid) (a .w) h) n
+
+-- "with g = 1 every case of 01 stands": the definitions are those of document 01 alone
+pub demand-2-one-device : (W H : ℕ) → deviceFits (device W H 1) ≡ (within 1 256 W && within 1 1024 H)
+demand-2-one-device W H = rw (multiple-one W) (and-true (within 1 256 W && within 1 1024 H && true) ∙ and-true (within 1 256 W && within 1 1024 H))
+
+pub demand-2-one-size : (W H w h : ℕ) → sizeFits (device W H 1) w h ≡ (within 1 W w && within 1 H h)
+demand-2-one-size W H w h = rw (multiple-one w) (and-true (within 1 W w && within 1 H h))
+
+pub demand-2-one-begins : (c : ℕ) → mayBegin 1 c ≡ true
+demand-2-one-begins = begin-one
+
+pub demand-2-one-free : (b : Board) (a : Submission) (i : ℕ) → candidates 1 (b .device .columns) (b .now) (liveOf b) a i
+    ≡ keep (clearOfWaiting (b .device .columns) (b .now) (liveOf b) a i) (map (leftEdge i) (bestFit (a .w) (runs (free (liveOf b) i) (columns (b .device .columns)))))
+demand-2-one-free b a i = candidates-one (b .device .columns) (b .now) (liveOf b) a i
+
+pub demand-2-one-released : (b : Board) (a : Submission) (i : ℕ) → releasedEdges 1 (b .device .columns) (b .now) (liveOf b) a i
+    ≡ map (leftEdge i) (bestFit (a .w) (runs (λ c. leb (release (b .now) (liveOf b) c) i) (columns (b .device .columns))))
+demand-2-one-released b a i = released-one (b .device .columns) (b .now) (liveOf b) a i
+
 -- "new board, booking, clock, withdrawal, lists, counts and stamps follow its rules": the rules stand in Clauses, clause by clause.
--- A new board "has the W and H asked for, now 0 and 64 free slots"
-pub demand-2-new-board : (W H : ℕ) → Clear (new-board-rows W H)
-    → created W H ≡ record { number = 0; board = record { tasks = replicate 64 freeSlot; now = 0; device = device W H } }
+-- A new board "has the W and H asked for, now 0 and 64 free slots", and the grid asked for
+pub demand-2-new-board : (W H g : ℕ) → Clear (new-board-rows W H g)
+    → created W H g ≡ record { number = 0; board = record { tasks = replicate 64 freeSlot; now = 0; device = device W H g } }
 unfolding created refusedCreate freshBoard
-demand-2-new-board W H c = clear-done _ _ (decides-new-board W H) c
+demand-2-new-board W H g c = clear-done _ _ (decides-new-board W H g) c
 
 -- booking: the lowest free slot holds the record as submitted with the column and start answered, and nothing else changes
 pub demand-2-booking : (b : Board) (n : ℕ) (a : Submission) (c s f : ℕ) → submitted b n a .answer ≡ Placed c s f → Books b a c s f (submitted b n a .board)

@@ -11,14 +11,14 @@ use lib.ListN.{length}
 use lib.Seq.{take-length}
 use Rattle.lists.specs.Lists.{indexOf, lastOr}
 use Rattle.events.specs.declared.Event.{Event}
-use Rattle.events.specs.declared.Event.the-variants.{NewBoard, Submit, Clock, Withdraw}
+use Rattle.events.specs.declared.Event.the-variants.{NewBoard, Submit, Clock, Withdraw, GridBoard}
 use Rattle.text.specs.Text.{ascii, decimal}
 use Rattle.text.proofs.Meaning.{Digits, decimal-value, decimal-digits}
 use Rattle.tokens.specs.declared.Sort.the-variants.{Hash}
 use Rattle.tokens.specs.Tokens.{blank, stopsAt, ended, wordsOn, words, firstWord, otherWords, same, empty, wrong, nth}
 use Rattle.tokens.proofs.Judged.{fits-decimal, some-digit}
 use Rattle.lines.specs.declared.Line.the-variants.{Says}
-use Rattle.lines.specs.Lines.{lessReturn, bare, plannerOf, saidOr, boardLine, clockLine, withdrawLine, asks, submitBehind, submitLine, saidBy, says}
+use Rattle.lines.specs.Lines.{lessReturn, bare, plannerOf, saidOr, plainLine, gridLine, boardLine, clockLine, withdrawLine, asks, submitBehind, submitLine, saidBy, says}
 use Rattle.promises.specs.Said.{joined, wordsOf, Wide}
 
 -- no comment and no carriage return among some bytes; no blank besides
@@ -141,7 +141,7 @@ withdraw-word = record {
 
 -- A LINE FOR AN EVENT says that event
 pub says-event : (v : Event) → Wide v → says (joined (wordsOf v)) ≡ Says v
-unfolding Wide wordsOf saidBy empty same firstWord otherWords boardLine clockLine withdrawLine submitLine submitBehind asks saidOr wrong nth
+unfolding Wide wordsOf saidBy empty same firstWord otherWords boardLine plainLine gridLine clockLine withdrawLine submitLine submitBehind asks saidOr wrong nth
 says-event (NewBoard W H) h =
     says-words ((ascii "board") ∷ decimal W ∷ decimal H ∷ []) (more board-word (more (a-number W) (more (a-number H) none)))
     ∙ rw (fits-decimal 65535 W (omega arith), fits-decimal 65535 H (omega arith), decimal-value W, decimal-value H)
@@ -164,3 +164,13 @@ says-event (Submit n a) h =
     )
 says-event (Clock i) h = says-words ((ascii "clock") ∷ decimal i ∷ []) (more clock-word (more (a-number i) none)) ∙ rw (fits-decimal 4294967295 i (omega arith), decimal-value i)
 says-event (Withdraw n) h = says-words ((ascii "withdraw") ∷ decimal n ∷ []) (more withdraw-word (more (a-number n) none)) ∙ rw (fits-decimal 4294967295 n (omega arith), decimal-value n)
+says-event (GridBoard W H g) h =
+    says-words ((ascii "board") ∷ decimal W ∷ decimal H ∷ decimal g ∷ []) (more board-word (more (a-number W) (more (a-number H) (more (a-number g) none))))
+    ∙ rw (
+      fits-decimal 65535 W (omega arith),
+      fits-decimal 65535 H (omega arith),
+      fits-decimal 255 g (omega arith),
+      decimal-value W,
+      decimal-value H,
+      decimal-value g,
+    )

@@ -2,8 +2,9 @@
 use mathlib.Core.Path.{_≡_, refl, sym, subst}
 use mathlib.Core.Bool.{true, false}
 use mathlib.Core.List.{[], _∷_, _++_}
-use Prim.Native.Nat.{_^_}
+use Prim.Native.Nat.{ℕ, _^_}
 use lib.Dec.{T}
+use lib.ListN.{replicate}
 use Rattle.table1.proofs.rows.Reads as rows
 use Rattle.events.specs.declared.Event.the-variants.{NewBoard, Submit, Clock}
 use Rattle.session.specs.Recording.{mostEvents}
@@ -14,15 +15,19 @@ use Rattle.worded.specs.Worded.{idText, wordedText}
 use Rattle.listing.specs.Listing.{headerText, listingText, stopText, endText, planText}
 use Rattle.lists.specs.Lists.{keep, some?, all?, pairwise?, head?, orElse, lastOr, indexOf, putFirst, insertBy, sortBy, each, firstOf, range, highest, addTo, rising}
 use Rattle.ways.specs.Ways.{isOpen, pairsIn, openingsIn, after, openingsAfter, askedOn}
-use Rattle.tasks.specs.Tasks.{meets, covers, holds, phaseAt, stamped, zeros, booked}
+use Rattle.tasks.specs.declared.Phase.the-variants.{Running}
+use Rattle.tasks.specs.Numbers.{multiple, mayBegin, device}
+use Rattle.tasks.specs.Tasks.{meets, covers, holds, phaseAt, stamped, freeSlot, zeros, booked}
 use Rattle.columns.specs.Columns.{join, runs, better, bestFit}
 use Rattle.planners.specs.Openings.{ways, full, pairNumbers}
-use Rattle.planners.specs.Planners.{free, release, visited, clearOfWaiting, candidates, releasedEdges, reference, horizon, stuffing, planned}
+use Rattle.planners.specs.Planners.{free, release, onGrid, visited, clearOfWaiting, candidates, releasedEdges, reference, horizon, stuffing, planned}
 use Rattle.slots.specs.Slots.{taskSound, slotSound, together, sound, named, known, withBooked, agedTo, allAgedTo, withoutNamed, begunNamed}
 use Rattle.lookups.specs.Lookups.{horizonList, stripNumbers, busyColumns}
+use Rattle.board.specs.declared.Board.{Board}
+use Rattle.board.specs.declared.Answer.the-variants.{Placed, Refused}
 use Rattle.board.specs.Answers.{told}
 use Rattle.board.specs.Calls.{orRefused, freshBoard, created, withTask, taken, answered, submitted, boardAt, clocked, withdrawn, remaining, opened, openedBuffer, listed, listedBuffer, counted}
-use Rattle.board.specs.Refusals.{refusal, refusedCreate, refusedSubmit, refusedInstant, refusedWithdraw, refusedOpenings, refusedHorizon}
+use Rattle.board.specs.Refusals.{refusal, soundBoard, refusedCreate, refusedSubmit, refusedInstant, refusedWithdraw, refusedOpenings, refusedHorizon}
 use Rattle.events.specs.Records.{bytesOf, numberOf, kindOf, bodyOf, recordOf, wholeOr15, readFrom, written, writtenBuffer, toldRead, toldWritten, idOf}
 use Rattle.session.specs.Recording.{firstState, lineOf, stopLine, outcome, storyFrom, story}
 use Rattle.promises.specs.Cases.{task, numbers, recordNumbers, afterEvent, play, same, sameAll, passes, at, only}
@@ -36,7 +41,7 @@ unfolding keep some? all? pairwise? head? orElse lastOr indexOf putFirst insertB
 open-lists = tt
 
 open-planners : Unit {0}
-unfolding meets covers holds phaseAt stamped zeros booked join runs better bestFit ways full free release visited clearOfWaiting candidates releasedEdges reference horizon stuffing planned
+unfolding meets covers holds phaseAt stamped zeros booked join runs better bestFit multiple mayBegin ways full free release onGrid visited clearOfWaiting candidates releasedEdges reference horizon stuffing planned
 open-planners = tt
 
 open-lookups : Unit {0}
@@ -95,9 +100,26 @@ unfolding open-book
 edge-set = tt
 
 -- document 02, Q-2: with now 5 and e 4, openings up to 10,000,009 are not refused (the edges have 10,000,010; there are too many openings here to be listed by the checker)
-pub openings-lax : refusedOpenings (clocked (created 4 1 .board) 5 .board) (task 1 1 4 10000009) ≡ 0
+pub openings-lax : refusedOpenings (clocked (created 4 1 1 .board) 5 .board) (task 1 1 4 10000009) ≡ 0
 unfolding open-book
 openings-lax = refl
+
+-- document 02, Q-3: a board lent with a task at column 2 and g 4 is not sound, with the same task at column 5 it is; so it is with g = 1 at column 2
+lentWith : ℕ → ℕ → Board
+lentWith g c = record {
+  tasks = record { id = 1; e = 3; d = 9; start = 0; w = 4; h = 1; column = c; phase = Running } ∷ replicate 63 freeSlot;
+  now = 0;
+  device = device 8 1 g;
+}
+
+pub off-grid-unsound : (soundBoard (lentWith 4 2) ≡ false) × (soundBoard (lentWith 4 5) ≡ true) × (soundBoard (lentWith 1 2) ≡ true)
+unfolding open-book lentWith
+off-grid-unsound = (refl, refl, refl)
+
+-- and it is answered 1
+pub off-grid-answered : (submitted (lentWith 4 2) 3 (record { id = 2; e = 1; d = 9; w = 4; h = 1 }) .answer ≡ Refused 1) × (submitted (lentWith 4 5) 3 (record { id = 2; e = 1; d = 9; w = 4; h = 1 }) .answer ≡ Placed 1 0 1)
+unfolding open-book lentWith
+off-grid-answered = (refl, refl)
 
 -- THE LISTING OF DOCUMENT 01, from the bytes of its records to the bytes that `plan` prints
 pub listing-printed : planText false (recording listingEvents) ≡ record { out = listingPrinted; err = [] }

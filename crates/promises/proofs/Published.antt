@@ -16,13 +16,14 @@ use Rattle.lists.proofs.Order.{Sorted, empty, next, Sorted·head, sorted-keep, 
 use Rattle.ways.specs.Ways.{pair}
 use Rattle.tasks.specs.declared.Task.{Task}
 use Rattle.tasks.specs.declared.Submission.{Submission}
+use Rattle.tasks.specs.Numbers.{mayBegin}
 use Rattle.tasks.specs.Tasks.{finish, past, meets, covers, holds, phaseAt, waitingPhase, stamped, booked}
 use Rattle.tasks.proofs.Laws.{Common, Holds, Share, meets-share, share-meets, holds-in, holds-out, covers-in, phase-waiting, is-waiting}
 use Rattle.columns.specs.Columns.{columns, Run, runs, bestFit}
 use Rattle.columns.proofs.Runs.{Longest, runs-longest, longest-runs}
-use Rattle.columns.proofs.BestFit.{Better, fit-in, in-fit, better-out, best-sorted}
+use Rattle.columns.proofs.BestFit.{Better, fit-in, in-fit, better-out, best-kept}
 use Rattle.planners.specs.Openings.{Place}
-use Rattle.planners.specs.Planners.{free, release, leftEdge, visited, clearOfWaiting, candidates, releasedEdges, reference, horizon, stuffing, planned}
+use Rattle.planners.specs.Planners.{free, release, onGrid, leftEdge, visited, clearOfWaiting, candidates, releasedEdges, reference, horizon, stuffing, planned}
 use Rattle.planners.proofs.Planners.{visited-in, now-visited, in-visited, visited-rising, candidate-opens, released-opens}
 use Rattle.board.specs.declared.Board.{Board}
 use Rattle.board.specs.declared.Answer.the-variants.{Placed, Rejected, Refused}
@@ -63,13 +64,16 @@ module _ (b : Board) (a : Submission) where
   pub record FreeRun (t : ℕ) (r : Run) : Type 0 where
     pub longest : Longest (free (liveOf b) t) 1 (b .device .columns) r
     pub wide : a .w ≤ r .size
+    -- .. that begins on the grid (document 02, Q-3), ..
+    pub on-grid : T (mayBegin (b .device .grid) (r .left))
     -- .. whose left edge "meets no waiting task": none that starts after t shares a column at a tick
     pub clear : (u : Task) → u ∈ liveOf b → t < u .start → Common (r .left) (r .left + a .w) (u .column) (past u) → Common t (t + a .e) (u .start) (finish u) → ⊥
 
-  -- HORIZON tries "the longest runs of columns released by t", of at least w columns
+  -- HORIZON tries "the longest runs of columns released by t", of at least w columns, that begin on the grid
   pub record ReleasedRun (t : ℕ) (r : Run) : Type 0 where
     pub longest : Longest (λ c. leb (release (b .now) (liveOf b) c) t) 1 (b .device .columns) r
     pub wide : a .w ≤ r .size
+    pub on-grid : T (mayBegin (b .device .grid) (r .left))
 
   -- "Visit now, then each .. after now and up to d − e"
   pub data VisitsEach (Time : ℕ → Type 0) (i : ℕ) : Type 0 where
@@ -199,7 +203,7 @@ module _ (Visits : ℕ → Type 0) (Tries : ℕ → Run → Type 0) (tried : ℕ
       nowhere (subst (λ ps. leftEdge i q ∈ ps) z (in-map (leftEdge i) (o .runs-in i q m)))
 
   -- so it answers
-  answers-as : (b : Board) (n : ℕ) (a : Submission) → planned (b .device .columns) (b .now) (liveOf b) a n ≡ firstOf (λ i. head? (tried i)) times
+  answers-as : (b : Board) (n : ℕ) (a : Submission) → planned (b .device .grid) (b .device .columns) (b .now) (liveOf b) a n ≡ firstOf (λ i. head? (tried i)) times
       → refusedSubmit b n a ≡ 0 → AnswersAs b n a Visits Tries
   unfolding taken
   answers-as b n a walk r = by (firstOf (λ i. head? (tried i)) times) refl
@@ -234,6 +238,13 @@ module _ (Visits : ℕ → Type 0) (Tries : ℕ → Run → Type 0) (tried : ℕ
 module _ (b : Board) (a : Submission) where
   abbrev W : ℕ
   W = b .device .columns
+
+  abbrev g : ℕ
+  g = b .device .grid
+
+  -- a run that begins on the grid
+  abbrev begins : Run → Bool
+  begins r = mayBegin g (r .left)
 
   abbrev ts : List Task
   ts = liveOf b
@@ -278,8 +289,8 @@ module _ (b : Board) (a : Submission) where
 
   -- the runs that Reference and Stuffing try
   free-trying : (Visits : ℕ → Type 0) (times : List ℕ) → Sorted _<_ times → ((i : ℕ) → i ∈ times → Visits i) → ((i : ℕ) → Visits i → i ∈ times)
-      → Trying Visits (FreeRun b a) (candidates W (b .now) ts a) times
-  unfolding candidates
+      → Trying Visits (FreeRun b a) (candidates g W (b .now) ts a) times
+  unfolding candidates onGrid
   free-trying Visits times rise to back = record {
     rising = rise;
     visits = to;
@@ -288,15 +299,16 @@ module _ (b : Board) (a : Submission) where
     edges = λ i. keep-map (clearOfWaiting W (b .now) ts a i) (leftEdge i) (fits i);
     tries = λ i r m.
         let k = keep-in (clear i) (fits i) m in
-        let f = fit-in (a .w) (runs (free ts i) (columns W)) (k .0) in
-        record { longest = runs-longest (free ts i) 1 W (f .0); wide = f .1; clear = clear-out i r (k .1) };
+        let f = fit-in (a .w) (onGrid g (runs (free ts i) (columns W))) (k .0) in
+        let o = keep-in begins (runs (free ts i) (columns W)) (f .0) in
+        record { longest = runs-longest (free ts i) 1 W (o .0); wide = f .1; on-grid = o .1; clear = clear-out i r (k .1) };
     runs-in = λ i r o.
-        in-keep (clear i) (in-fit (a .w) (runs (free ts i) (columns W)) (longest-runs (free ts i) 1 W r (o .longest)) (o .wide)) (clear-in i r (o .clear));
-    sorted = λ i. sorted-keep Better (clear i) (best-sorted (a .w) (free ts i) 1 W);
+        in-keep (clear i) (in-fit (a .w) (onGrid g (runs (free ts i) (columns W))) (in-keep begins (longest-runs (free ts i) 1 W r (o .longest)) (o .on-grid)) (o .wide)) (clear-in i r (o .clear));
+    sorted = λ i. sorted-keep Better (clear i) (best-kept (a .w) begins (free ts i) 1 W);
   }
     where
       fits : ℕ → List Run
-      fits i = bestFit (a .w) (runs (free ts i) (columns W))
+      fits i = bestFit (a .w) (onGrid g (runs (free ts i) (columns W)))
 
       clear : ℕ → Run → Bool
       clear i r = clearOfWaiting W (b .now) ts a i (leftEdge i r)
@@ -305,9 +317,9 @@ module _ (b : Board) (a : Submission) where
   pub reference-as : refusedSubmit b 0 a ≡ 0 → AnswersAs b 0 a (λ i. i ≡ b .now) (FreeRun b a)
   unfolding planned reference firstOf orElse
   reference-as r =
-      answers-as (λ i. i ≡ b .now) (FreeRun b a) (candidates W (b .now) ts a) (b .now ∷ [])
+      answers-as (λ i. i ≡ b .now) (FreeRun b a) (candidates g W (b .now) ts a) (b .now ∷ [])
       (free-trying (λ i. i ≡ b .now) (b .now ∷ []) (next {x = b .now} (λ y m. absurd (nowhere m)) empty) (λ i m. one (cases m)) (λ i z. here z))
-      b 0 a (alone (head? (candidates W (b .now) ts a (b .now)))) r
+      b 0 a (alone (head? (candidates g W (b .now) ts a (b .now)))) r
     where
       one : {i : ℕ} → (i ≡ b .now) ⊎ (i ∈ []) → i ≡ b .now
       one (inl z) = z
@@ -321,7 +333,7 @@ module _ (b : Board) (a : Submission) where
   pub stuffing-as : refusedSubmit b 2 a ≡ 0 → AnswersAs b 2 a (VisitsEach b a (IsFinish b)) (FreeRun b a)
   unfolding planned stuffing
   stuffing-as r =
-      answers-as (VisitsEach b a (IsFinish b)) (FreeRun b a) (candidates W (b .now) ts a) (visited W (b .now) ts a (map finish ts))
+      answers-as (VisitsEach b a (IsFinish b)) (FreeRun b a) (candidates g W (b .now) ts a) (visited W (b .now) ts a (map finish ts))
       (free-trying (VisitsEach b a (IsFinish b)) (visited W (b .now) ts a (map finish ts)) (visited-rising W (b .now) ts a (map finish ts))
       (visits-each (IsFinish b) (map finish ts) to back) (each-visited (IsFinish b) (map finish ts) to back))
       b 2 a refl r
@@ -334,18 +346,21 @@ module _ (b : Board) (a : Submission) where
 
   -- HORIZON: at now and each release
   pub horizon-as : refusedSubmit b 1 a ≡ 0 → AnswersAs b 1 a (VisitsEach b a (IsRelease b)) (ReleasedRun b a)
-  unfolding planned horizon releasedEdges
+  unfolding planned horizon releasedEdges onGrid
   horizon-as r =
-      answers-as (VisitsEach b a (IsRelease b)) (ReleasedRun b a) (releasedEdges W (b .now) ts a) (visited W (b .now) ts a releases)
+      answers-as (VisitsEach b a (IsRelease b)) (ReleasedRun b a) (releasedEdges g W (b .now) ts a) (visited W (b .now) ts a releases)
       (record {
         rising = visited-rising W (b .now) ts a releases;
         visits = visits-each (IsRelease b) releases to back;
         times-in = each-visited (IsRelease b) releases to back;
-        runsAt = λ i. bestFit (a .w) (runs (released i) (columns W));
+        runsAt = λ i. bestFit (a .w) (onGrid g (runs (released i) (columns W)));
         edges = λ i. refl;
-        tries = λ i r m. let f = fit-in (a .w) (runs (released i) (columns W)) m in record { longest = runs-longest (released i) 1 W (f .0); wide = f .1 };
-        runs-in = λ i r o. in-fit (a .w) (runs (released i) (columns W)) (longest-runs (released i) 1 W r (o .longest)) (o .wide);
-        sorted = λ i. best-sorted (a .w) (released i) 1 W;
+        tries = λ i r m.
+            let f = fit-in (a .w) (onGrid g (runs (released i) (columns W))) m in
+            let o = keep-in begins (runs (released i) (columns W)) (f .0) in
+            record { longest = runs-longest (released i) 1 W (o .0); wide = f .1; on-grid = o .1 };
+        runs-in = λ i r o. in-fit (a .w) (onGrid g (runs (released i) (columns W))) (in-keep begins (longest-runs (released i) 1 W r (o .longest)) (o .on-grid)) (o .wide);
+        sorted = λ i. best-kept (a .w) begins (released i) 1 W;
       })
       b 1 a refl r
     where
@@ -363,14 +378,14 @@ module _ (b : Board) (a : Submission) where
 
   -- A RUN THAT IS TRIED IS AN OPENING, from now on and up to d − e: at the left edge of a free interval, to meet no waiting task is to meet no live task
   pub free-run-opens : (t : ℕ) (r : Run) → b .now ≤ t → t + a .e ≤ a .d → FreeRun b a t r → IsOpening b a (pair t (r .left))
-  unfolding candidates
+  unfolding candidates onGrid
   free-run-opens t r l h o =
-      let fits = in-fit (a .w) (runs (free ts t) (columns W)) (longest-runs (free ts t) 1 W r (o .longest)) (o .wide) in
-      candidate-opens W (b .now) ts a t l h (in-keep (clearOfWaiting W (b .now) ts a t) (in-map (leftEdge t) fits) (clear-in t r (o .clear)))
+      let fits = in-fit (a .w) (onGrid g (runs (free ts t) (columns W))) (in-keep begins (longest-runs (free ts t) 1 W r (o .longest)) (o .on-grid)) (o .wide) in
+      candidate-opens g W (b .now) ts a t l h (in-keep (clearOfWaiting W (b .now) ts a t) (in-map (leftEdge t) fits) (clear-in t r (o .clear)))
 
   -- and so is one of released columns
   pub released-run-opens : (t : ℕ) (r : Run) → b .now ≤ t → t + a .e ≤ a .d → ReleasedRun b a t r → IsOpening b a (pair t (r .left))
-  unfolding releasedEdges
+  unfolding releasedEdges onGrid
   released-run-opens t r l h o =
       let released : ℕ → Bool = λ c. leb (release (b .now) ts c) t in
-      released-opens W (b .now) ts a t l h (in-map (leftEdge t) (in-fit (a .w) (runs released (columns W)) (longest-runs released 1 W r (o .longest)) (o .wide)))
+      released-opens g W (b .now) ts a t l h (in-map (leftEdge t) (in-fit (a .w) (onGrid g (runs released (columns W))) (in-keep begins (longest-runs released 1 W r (o .longest)) (o .on-grid)) (o .wide)))

@@ -12,7 +12,7 @@ use Rattle.events.specs.declared.Event.{Event}
 use Rattle.events.specs.declared.Reading.{Reading}
 use Rattle.events.specs.declared.Reading.the-variants.{End, Got, CutShort, Unknown}
 use Rattle.events.specs.Records.{kindOf, readFrom}
-use Rattle.events.proofs.RoundTrip.{Bytes, Fits, board, submission, instant, name}
+use Rattle.events.proofs.RoundTrip.{Bytes, Fits, board, submission, instant, name, gridded as grid-board}
 use Rattle.events.proofs.Widths.{bytes-drop, read-fits}
 use Rattle.steps.specs.declared.State.{State}
 use Rattle.session.specs.declared.Ran.{Ran}
@@ -20,7 +20,7 @@ use Rattle.session.specs.Recording.{Line, lineOf, firstState, outcome, storyFro
 use Rattle.session.proofs.Stories.{lastLine, story-run}
 use Rattle.session.proofs.run.Reads as run
 use Rattle.promises.specs.Ledger.{ledgerAfter, Account, accountAfter}
-use Rattle.promises.proofs.Session.{Named, new, submit, clock, withdraw, Honest, honest-session, honest-none, honest-from}
+use Rattle.promises.proofs.Session.{Named, new, gridded, submit, clock, withdraw, Honest, honest-session, honest-none, honest-from}
 
 -- a state and its promises
 abbrev pub account : State → List Task → Account
@@ -42,6 +42,7 @@ fits-named (board {W} {H} p q) = new W H
 fits-named (submission {n} {a} p q) = submit n a (let h = q .id in omega arith)
 fits-named (instant {i} p) = clock i
 fits-named (name {n} p) = withdraw n
+fits-named (grid-board {W} {H} {g} p q r) = gridded W H g
 
 -- a run, event by event
 data Played : State → ℕ → List ℕ → List Line → List Event → State → Type 0 where

@@ -1,5 +1,5 @@
 -- A refusal is the number of the first row of document 01's table that holds, for each call, and 0 is given where none does. Assumes nothing.
-use Prim.Native.Nat.{ℕ, zero, suc, _+_, _*_, _≤_, _<_}
+use Prim.Native.Nat.{ℕ, zero, suc, _+_, _*_, _/_, _≤_, _<_}
 use mathlib.Core.Path.{_≡_, refl, sym, ap, _∙_, subst}
 use mathlib.Core.Logic.{_⊎_, inl, inr}
 use mathlib.Core.Bool.{Bool, true, false, not, _&&_}
@@ -15,9 +15,10 @@ use Rattle.lists.proofs.Members.{keep-in, in-keep, some-pass, pass-some}
 use Rattle.tasks.specs.declared.Phase.{Phase}
 use Rattle.tasks.specs.declared.Phase.the-variants.{Ended, Waiting, Running}
 use Rattle.tasks.specs.declared.Submission.{Submission}
-use Rattle.tasks.specs.Numbers.{within, device, deviceFits, longest, lastInstant}
+use Rattle.tasks.specs.Numbers.{within, multiple, device, deviceFits, longest, lastInstant}
 use Rattle.laxity.specs.Laxity.{laxity, mostLaxity}
 use Rattle.tasks.specs.Tasks.{live, livePhase, waitingPhase}
+use Rattle.tasks.proofs.Grid.{multiple-steps, multiple-times}
 use Rattle.tasks.proofs.Laws.{within-out, within-in}
 use Rattle.slots.specs.Slots.{named, known, begunNamed}
 use Rattle.slots.proofs.Soundness.{sound-out, sound-in}
@@ -34,7 +35,7 @@ use Rattle.events.specs.Records.{readFrom}
 use Rattle.events.proofs.Found.{Found, got, cut as is-cut, none as no-kind, found, known as known-kind, short, unknown as unknown-kind}
 use Rattle.events.proofs.Calls.{judges-none}
 use Rattle.promises.proofs.Clauses.{Reads, at-end, whole, cut, unknown}
-use Rattle.promises.proofs.Clauses.{Row, _when_, First, this, later, Clear, empty, next, Given, done, refused, Holding, here, there, numbers, Rises, Outside, LiveTask}
+use Rattle.promises.proofs.Clauses.{Row, _when_, First, this, later, Clear, empty, next, Given, done, refused, Holding, here, there, numbers, Rises, Outside, Steps, LiveTask}
 use Rattle.promises.proofs.Clauses.{not-sound, bad-size, bad-time, too-lax, new-board-rows, submission-rows, instant-rows, withdrawal-rows, openings-rows, horizon-rows}
 
 -- TESTS AND ROWS: each test has the number of its row, and holds exactly when the row does
@@ -166,6 +167,19 @@ outside-in : (lo hi n : ℕ) → Outside lo hi n → T (not (within lo hi n))
 outside-in lo hi n (inl l) = not-T (within lo hi n) (λ t. let w = within-out lo hi n t in omega arith)
 outside-in lo hi n (inr h) = not-T (within lo hi n) (λ t. let w = within-out lo hi n t in omega arith)
 
+-- a multiple is so many steps
+pub steps-out : (g n : ℕ) → T (multiple g n) → Steps g n
+steps-out g n t = (n / g, sym (multiple-times g n t))
+
+pub steps-in : (g n : ℕ) → Steps g n → T (multiple g n)
+steps-in g n (k, e) = subst (λ x. T (multiple g x)) (sym e) (multiple-steps g k)
+
+off-out : (g n : ℕ) → T (not (multiple g n)) → Steps g n → ⊥
+off-out g n t s = T-not (multiple g n) t (steps-in g n s)
+
+off-in : (g n : ℕ) → (Steps g n → ⊥) → T (not (multiple g n))
+off-in g n f = not-T (multiple g n) (λ t. f (steps-out g n t))
+
 -- a test of two that fails, fails in one
 module _ (p q : Bool) {P Q : Type 0} where
   either-out : (T (not p) → P) → (T (not q) → Q) → T (not (p && q)) → P ⊎ Q
@@ -199,8 +213,8 @@ module _ (b : Board) where
   is-bad-size a = record {
     number = refl;
     some = omega arith;
-    to = either-out w h (outside-out 1 (b .device .columns) (a .w)) (outside-out 1 (b .device .rows) (a .h));
-    back = either-in w h (outside-in 1 (b .device .columns) (a .w)) (outside-in 1 (b .device .rows) (a .h));
+    to = either-out (w && h) s (either-out w h (outside-out 1 (b .device .columns) (a .w)) (outside-out 1 (b .device .rows) (a .h))) (off-out (b .device .grid) (a .w));
+    back = either-in (w && h) s (either-in w h (outside-in 1 (b .device .columns) (a .w)) (outside-in 1 (b .device .rows) (a .h))) (off-in (b .device .grid) (a .w));
   }
     where
       w : Bool
@@ -208,6 +222,9 @@ module _ (b : Board) where
 
       h : Bool
       h = within 1 (b .device .rows) (a .h)
+
+      s : Bool
+      s = multiple (b .device .grid) (a .w)
 
   is-bad-time : (a : Submission) → Decided (badTime a) (bad-time a)
   is-bad-time a = record {
@@ -325,15 +342,24 @@ module _ (b : Board) where
   pub decides-horizon : (words : ℕ) → Decides (unsound (soundBoard b) ∷ horizonTests (length (horizonOf b)) words) (horizon-rows b words)
   decides-horizon words = row is-not-sound (row (is-below 17 (omega arith) words (3 * length (horizonOf b))) end)
 
-pub decides-new-board : (W H : ℕ) → Decides (createTests (device W H)) (new-board-rows W H)
-decides-new-board W H = row size end
+pub decides-new-board : (W H g : ℕ) → Decides (createTests (device W H g)) (new-board-rows W H g)
+decides-new-board W H g = row size end
   where
-    size : Decided (record { number = 2; holds = not (deviceFits (device W H)) }) (2 when (Outside 1 256 W ⊎ Outside 1 1024 H))
+    w : Bool
+    w = within 1 256 W
+
+    h : Bool
+    h = within 1 1024 H
+
+    s : Bool
+    s = within 1 16 g
+
+    size : Decided (record { number = 2; holds = not (deviceFits (device W H g)) }) (2 when (((Outside 1 256 W ⊎ Outside 1 1024 H) ⊎ Outside 1 16 g) ⊎ (Steps g W → ⊥)))
     size = record {
       number = refl;
       some = omega arith;
-      to = either-out (within 1 256 W) (within 1 1024 H) (outside-out 1 256 W) (outside-out 1 1024 H);
-      back = either-in (within 1 256 W) (within 1 1024 H) (outside-in 1 256 W) (outside-in 1 1024 H);
+      to = either-out (w && h && s) (multiple g W) (either-out (w && h) s (either-out w h (outside-out 1 256 W) (outside-out 1 1024 H)) (outside-out 1 16 g)) (off-out g W);
+      back = either-in (w && h && s) (multiple g W) (either-in (w && h) s (either-in w h (outside-in 1 256 W) (outside-in 1 1024 H)) (outside-in 1 16 g)) (off-in g W);
     }
 
 -- A REFUSED SUBMISSION has the number of its first row that holds
@@ -342,7 +368,7 @@ unfolding submitted refusedSubmit answered
 refused-first b n a k e = by (only-first (λ j. record { answer = Refused j; board = b }) (answered b n a) (decides-submission b n a) (λ r. r .answer ≡ Refused k) unrefused e)
   where
     unrefused : answered b n a .answer ≡ Refused k → ⊥
-    unrefused = go (planned (b .device .columns) (b .now) (liveOf b) a n)
+    unrefused = go (planned (b .device .grid) (b .device .columns) (b .now) (liveOf b) a n)
       where
         go : (o : Option Place) → taken b a o .answer ≡ Refused k → ⊥
         go none q = unfold taken in let z : _≡_ {A = ℕ} 0 1 = cc in omega arith

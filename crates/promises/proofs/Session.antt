@@ -37,7 +37,7 @@ use Rattle.board.proofs.Tested.{clocked-unsound, withdrawn-unsound}
 use Rattle.board.proofs.Placed.{placed-opens, BooksAt, placed-books, unplaced-same}
 use Rattle.events.specs.declared.Ask.{Ask}
 use Rattle.events.specs.declared.Event.{Event}
-use Rattle.events.specs.declared.Event.the-variants.{NewBoard, Submit, Clock, Withdraw}
+use Rattle.events.specs.declared.Event.the-variants.{NewBoard, Submit, Clock, Withdraw, GridBoard}
 use Rattle.events.specs.Records.{submissionOf}
 use Rattle.steps.specs.declared.State.{State}
 use Rattle.steps.specs.Outcomes.{firstState, withBoard}
@@ -75,6 +75,7 @@ twice i j k = refl
 -- an id fits its field
 pub data Named : Event → Type 0 where
   new : (W H : ℕ) → Named (NewBoard W H)
+  gridded : (W H g : ℕ) → Named (GridBoard W H g)
   submit : (n : ℕ) (a : Ask) → a .id ≤ largestId → Named (Submit n a)
   clock : (i : ℕ) → Named (Clock i)
   withdraw : (n : ℕ) → Named (Withdraw n)
@@ -117,7 +118,7 @@ after-place b ks o s n a i c t f e =
     p : BooksAt b n a (indexOf (λ k. not (live k)) (b .tasks)) c t f
     p = placed-books b n a refl e
 
-    w : Opening (b .device .columns) (b .now) (liveOf b) a (pair t c)
+    w : Opening (b .device .grid) (b .device .columns) (b .now) (liveOf b) a (pair t c)
     w = placed-opens b n a e .0
 
     after : Board
@@ -222,14 +223,21 @@ module _ (b : Board) (ks : List Task) (o : Honest b ks) where
   same : {c : Board} {ls : List Task} → c ≡ b → ls ≡ ks → Honest c ls
   same {c} {ls} e f = subst (λ x. Honest x ls) (sym e) (subst (λ x. Honest b x) (sym f) o)
 
-  -- A NEW BOARD
+  -- A NEW BOARD, on whatever grid
+  fresh : (W H g : ℕ) → Honest (created W H g .board) []
+  fresh W H g = record { standing = go (deviceFits (device W H g)) refl; apart = empty; due = λ k m. absurd (nowhere m); stands = λ k m. absurd (nowhere m) }
+    where
+      go : (t : Bool) → deviceFits (device W H g) ≡ t → SoundBoard (created W H g .board) ⊎ (created W H g .board ≡ zeroBoard)
+      go true e = inl (created-sound W H g (rw e tt))
+      go false e = inr (ap (λ x. x .board) (created-not W H g e))
+
   honest-new : (W H : ℕ) → Honest (outcome (withBoard firstState b) (NewBoard W H) .state .board) (ledgerAfter (withBoard firstState b) ks (NewBoard W H))
   unfolding outcome ledgerAfter
-  honest-new W H = record { standing = go (deviceFits (device W H)) refl; apart = empty; due = λ k m. absurd (nowhere m); stands = λ k m. absurd (nowhere m) }
-    where
-      go : (t : Bool) → deviceFits (device W H) ≡ t → SoundBoard (created W H .board) ⊎ (created W H .board ≡ zeroBoard)
-      go true e = inl (created-sound W H (rw e tt))
-      go false e = inr (ap (λ x. x .board) (created-not W H e))
+  honest-new W H = fresh W H 1
+
+  honest-grid : (W H g : ℕ) → Honest (outcome (withBoard firstState b) (GridBoard W H g) .state .board) (ledgerAfter (withBoard firstState b) ks (GridBoard W H g))
+  unfolding outcome ledgerAfter
+  honest-grid W H g = fresh W H g
 
   -- on a sound board
   module _ (s : SoundBoard b) where
@@ -325,6 +333,7 @@ honest-event s ks v m o = go (o .standing) v m
 
     go : SoundBoard b ⊎ (b ≡ zeroBoard) → (w : Event) → Named w → Honest (outcome s w .state .board) (ledgerAfter s ks w)
     go x w (new W H) = honest-new b ks o W H
+    go x w (gridded W H g) = honest-grid b ks o W H g
     go (inl x) w (submit n a i) = honest-submit b ks o x n a i
     go (inl x) w (clock i) = honest-clock b ks o x i
     go (inl x) w (withdraw n) = honest-withdraw b ks o x n

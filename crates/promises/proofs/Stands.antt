@@ -19,7 +19,7 @@ use Rattle.board.specs.Refusals.{liveOf}
 use Rattle.board.specs.Calls.{submitted, withdrawn}
 use Rattle.events.specs.declared.Ask.{Ask}
 use Rattle.events.specs.declared.Event.{Event}
-use Rattle.events.specs.declared.Event.the-variants.{NewBoard, Submit, Clock, Withdraw}
+use Rattle.events.specs.declared.Event.the-variants.{NewBoard, Submit, Clock, Withdraw, GridBoard}
 use Rattle.events.specs.Records.{submissionOf}
 use Rattle.events.proofs.RoundTrip.{Bytes}
 use Rattle.steps.specs.declared.State.{State}
@@ -32,6 +32,7 @@ use Rattle.promises.proofs.Recordings.{account, eventsIn, code-honest, 
 -- the events that end a promise: any new board, refused or not, and a withdrawal of its id before its start that is not refused
 pub data Ends (b : Board) (k : Task) : Event → Type 0 where
   new : (W H : ℕ) → Ends b k (NewBoard W H)
+  gridded : (W H g : ℕ) → Ends b k (GridBoard W H g)
   owner : (n : ℕ) → k .id ≡ n → b .now < k .start → withdrawn b n .number ≡ 0 → Ends b k (Withdraw n)
 
 -- one of some events ends it
@@ -53,6 +54,7 @@ promise-made s ks n q e = rw (e, entered) (here refl)
 pub promise-stays : (s : State) (ks : List Task) (v : Event) (k : Task) → k ∈ ks → (k ∈ ledgerAfter s ks v) ⊎ Ends (s .board) k v
 unfolding ledgerAfter entered struck
 promise-stays s ks (NewBoard W H) k m = inr (new W H)
+promise-stays s ks (GridBoard W H g) k m = inr (gridded W H g)
 promise-stays s ks (Clock i) k m = inl m
 promise-stays s ks (Submit n q) k m = inl (go (submitted (s .board) n (submissionOf q) .answer))
   where

@@ -38,7 +38,7 @@ refused-with : (b : Board) (n : ℕ) (a : Submission) → told (submitted b n a 
 refused-with b n a e = by (refusedSubmit b n a) refl
   where
     by : (r : ℕ) → refusedSubmit b n a ≡ r → refusedSubmit b n a ≡ 18
-    by zero q = absurd (not-placed b a (planned (b .device .columns) (b .now) (liveOf b) a n) (sym (ap (λ x. told (x .answer) .number) (accepted-answered b n a q)) ∙ e))
+    by zero q = absurd (not-placed b a (planned (b .device .grid) (b .device .columns) (b .now) (liveOf b) a n) (sym (ap (λ x. told (x .answer) .number) (accepted-answered b n a q)) ∙ e))
     by (suc r) q = q ∙ sym (ap (λ x. told (x .answer) .number) (refused-submit-same b n a r q) ∙ (unfold told in refl)) ∙ e
 
 -- its laxity is over the limit

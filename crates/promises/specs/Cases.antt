@@ -11,7 +11,7 @@ use Rattle.board.specs.declared.Board.{Board}
 use Rattle.board.specs.Answers.{Told}
 use Rattle.board.specs.Calls.{created, opened, openedBuffer, listed, listedBuffer, counted}
 use Rattle.events.specs.declared.Ask.{Ask}
-use Rattle.events.specs.declared.Event.the-variants.{NewBoard, Submit, Clock, Withdraw}
+use Rattle.events.specs.declared.Event.the-variants.{NewBoard, Submit, Clock, Withdraw, GridBoard}
 use Rattle.session.specs.Recording.{firstState, Outcome, outcome}
 use Rattle.steps.specs.Outcomes.{withBoard}
 
@@ -26,6 +26,7 @@ task w h e d = record { id = 0; e = e; d = d; w = w; h = h }
 -- what is done to a board, or asked of it with a buffer of that many words, each 999 before
 pub data Step : Type 0 where
   board : (W H : ℕ) → Step
+  grid : (W H g : ℕ) → Step
   submit : (planner id w h e d : ℕ) → Step
   clock : (instant : ℕ) → Step
   withdraw : (id : ℕ) → Step
@@ -50,6 +51,7 @@ afterEvent r rest = numbers (r .answer) ∷ rest (r .state .board)
 unfoldable pub play : List Step → Board → List (List ℕ)
 play [] b = []
 play (board W H ∷ vs) b = afterEvent (outcome (withBoard firstState b) (NewBoard W H)) (play vs)
+play (grid W H g ∷ vs) b = afterEvent (outcome (withBoard firstState b) (GridBoard W H g)) (play vs)
 play (submit n id w h e d ∷ vs) b = afterEvent (outcome (withBoard firstState b) (Submit n (ask id w h e d))) (play vs)
 play (clock i ∷ vs) b = afterEvent (outcome (withBoard firstState b) (Clock i)) (play vs)
 play (withdraw n ∷ vs) b = afterEvent (outcome (withBoard firstState b) (Withdraw n)) (play vs)
@@ -91,7 +93,7 @@ sameAll (x ∷ xs) (y ∷ ys) = elim (same x y) [ true ↦ sameAll xs ys | false
 
 -- what comes of the steps is what the case says
 unfoldable pub passes : Case → Bool
-passes k = sameAll (play (k .steps) (created (k .W) (k .H) .board)) (k .answers)
+passes k = sameAll (play (k .steps) (created (k .W) (k .H) 1 .board)) (k .answers)
 
 -- a submission that is placed at a column and start for e ticks
 unfoldable pub at : ℕ → ℕ → ℕ → List ℕ

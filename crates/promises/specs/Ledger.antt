@@ -12,7 +12,7 @@ use Rattle.board.specs.declared.Answer.{Answer}
 use Rattle.board.specs.declared.Answer.the-variants.{Rejected, Placed, Refused}
 use Rattle.board.specs.Calls.{submitted, withdrawn}
 use Rattle.events.specs.declared.Event.{Event}
-use Rattle.events.specs.declared.Event.the-variants.{NewBoard, Submit, Clock, Withdraw}
+use Rattle.events.specs.declared.Event.the-variants.{NewBoard, Submit, Clock, Withdraw, GridBoard}
 use Rattle.events.specs.Records.{submissionOf}
 use Rattle.steps.specs.declared.State.{State}
 use Rattle.session.specs.Recording.{outcome}
@@ -34,6 +34,7 @@ ledgerAfter s ks (NewBoard W H) = []
 ledgerAfter s ks (Submit n a) = let x = submissionOf a in entered (s .board) x (submitted (s .board) n x .answer) ks
 ledgerAfter s ks (Clock i) = ks
 ledgerAfter s ks (Withdraw n) = struck (s .board) (withdrawn (s .board) n .number) n ks
+ledgerAfter s ks (GridBoard W H g) = []
 
 -- the state of a run with the promises made in it
 pub record Account : Type 0 where
