@@ -9,10 +9,10 @@ abbrev pub answerTexts : List (List ℕ)
 answerTexts =
     ascii "done"
     ∷ ascii "the board is not sound"
-    ∷ ascii "W or H out of range"
+    ∷ ascii "W, H or G out of range, or W no multiple of G"
     ∷ ascii "no such planner"
     ∷ ascii "the id is 0"
-    ∷ ascii "width or height out of range"
+    ∷ ascii "w or h out of range, or w no multiple of G"
     ∷ ascii "e or d out of range"
     ∷ ascii "the id is live already"
     ∷ ascii "d is before now + e"

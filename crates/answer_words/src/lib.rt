@@ -6,17 +6,17 @@ ghost use Rattle.answer_words.specs.AnswerWords.{answerWords};
 
 // An answer in words from a place on; the place after them.
 pub fn put_answer(out: &mut [u8], at: usize, number: u32) -> usize
-    requires { ⌜ at + 39 ≤ length (now out) ⌝ }
+    requires { ⌜ at + 45 ≤ length (now out) ⌝ }
     ensures { λ r. ⌜ Put (now (out .entry)) at (answerWords number) (now (out .exit)) r ⌝ }
-    ensures { λ r. ⌜ r ≤ at + 39 ⌝ }
+    ensures { λ r. ⌜ r ≤ at + 45 ⌝ }
 {
     match number {
         0 => text::put_bytes(out, at, b"done"),
         1 => text::put_bytes(out, at, b"the board is not sound"),
-        2 => text::put_bytes(out, at, b"W or H out of range"),
+        2 => text::put_bytes(out, at, b"W, H or G out of range, or W no multiple of G"),
         3 => text::put_bytes(out, at, b"no such planner"),
         4 => text::put_bytes(out, at, b"the id is 0"),
-        5 => text::put_bytes(out, at, b"width or height out of range"),
+        5 => text::put_bytes(out, at, b"w or h out of range, or w no multiple of G"),
         6 => text::put_bytes(out, at, b"e or d out of range"),
         7 => text::put_bytes(out, at, b"the id is live already"),
         8 => text::put_bytes(out, at, b"d is before now + e"),

@@ -33,9 +33,14 @@ tasksText slot [] shown = []
 tasksText slot (k ∷ ks) [] = []
 tasksText slot (k ∷ ks) (s ∷ shown) = cond (live k) (taskText slot s) [] ++ tasksText (suc slot) ks shown
 
--- "a row `W H now`, then a row .. for each live task by slot, slots counted from 1"
+-- "a row `W H now` for g 1 and `W H now G` otherwise"
+unfoldable pub deviceRow : Board → List ℕ
+deviceRow b =
+    cond (eqb (b .device .grid) 1) (b .device .columns ∷ b .device .rows ∷ b .now ∷ []) (b .device .columns ∷ b .device .rows ∷ b .now ∷ b .device .grid ∷ [])
+
+-- the row of the device, "then a row .. for each live task by slot, slots counted from 1"
 unfoldable pub shownText : Board → List Task → List ℕ
-shownText b shown = rowText (b .device .columns ∷ b .device .rows ∷ b .now ∷ []) ++ tasksText 1 (b .tasks) shown
+shownText b shown = rowText (deviceRow b) ++ tasksText 1 (b .tasks) shown
 
 -- "`ask board`"
 abbrev pub boardText : Board → List ℕ

@@ -8,7 +8,7 @@ ghost use Rattle.lists.specs.Lists.{overFront};
 ghost use Rattle.tasks.specs.Tasks.{live};
 ghost use Rattle.text.specs.Text.{decimal, rowText};
 ghost use Rattle.text.specs.Digits.{Put};
-ghost use Rattle.board_text.specs.BoardText.{phaseWord, answerText, haltText, taskText, tasksText, shownText, boardText, stampText};
+ghost use Rattle.board_text.specs.BoardText.{phaseWord, answerText, haltText, taskText, tasksText, deviceRow, shownText, boardText, stampText};
 use board::Board;
 use tasks::Phase;
 use tasks::Task;
@@ -89,18 +89,22 @@ fn put_tasks(out: &mut [u8], at: usize, tasks: [Task; 64], shown: [Task; 64]) ->
     place
 }
 
-// "a row `W H now`"; the place after it.
+// "a row `W H now` for g 1 and `W H now G` otherwise"; the place after it.
 fn put_device(out: &mut [u8], board: Board) -> usize
-    requires { ⌜ 33 ≤ length (now out) ⌝ }
-    ensures { λ r. ⌜ Put (now (out .entry)) 0 (rowText (board .device .columns ∷ board .device .rows ∷ board .now ∷ [])) (now (out .exit)) r ⌝ }
-    ensures { λ r. ⌜ r ≤ 33 ⌝ }
+    requires { ⌜ 44 ≤ length (now out) ⌝ }
+    ensures { λ r. ⌜ Put (now (out .entry)) 0 (rowText (deviceRow board)) (now (out .exit)) r ⌝ }
+    ensures { λ r. ⌜ r ≤ 44 ⌝ }
 {
     let words = [
         board.device.columns as u32,
         board.device.rows as u32,
         board.now,
+        board.device.grid as u32,
     ];
-    text::put_words(out, 0, &words, 0, 3)
+    if board.device.grid == 1 {
+        return text::put_words(out, 0, &words, 0, 3);
+    }
+    text::put_words(out, 0, &words, 0, 4)
 }
 
 // A board, its live tasks shown by the records of another table. The text of 64 tasks is shorter than the buffer.
@@ -114,7 +118,7 @@ fn put_shown(out: &mut [u8; 8192], board: Board, shown: [Task; 64]) -> usize
     put_tasks(out, at, tasks, shown)
 }
 
-// "`ask board`: a row `W H now`, then a row for each live task by slot", at the front of the buffer; how many bytes they take.
+// "`ask board`": the row of the device, "then a row .. for each live task by slot", at the front of the buffer; how many bytes they take.
 pub fn put_board(out: &mut [u8; 8192], board: Board) -> usize
     ensures { λ r. ⌜ r ≡ length (boardText board) ⌝ }
     ensures { λ r. ⌜ now (out .exit) ≡ overFront (boardText board) (now (out .entry)) ⌝ }

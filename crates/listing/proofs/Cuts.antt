@@ -85,10 +85,10 @@ lists-whole w {bytes} {text} {last} way =
     no-more vs = append-nil vs
 
 -- PROGRESS: with room for a line, something is taken of a piece that has a byte
-pub listed-takes : (l : Listing) → Sane (l .reader) → (p : List ℕ) (room : ℕ) → 0 < length p → cond (l .words) 128 66 ≤ room → 0 < listed l p room .taken
+pub listed-takes : (l : Listing) → Sane (l .reader) → (p : List ℕ) (room : ℕ) → 0 < length p → cond (l .words) 134 66 ≤ room → 0 < listed l p room .taken
 unfolding listed
 listed-takes l s p room h q = heard-takes (l .reader) s p (6 * linesIn (l .words) room) h (enough (l .words) q)
   where
-    enough : (b : Bool) → cond b 128 66 ≤ room → 6 ≤ 6 * linesIn b room
+    enough : (b : Bool) → cond b 134 66 ≤ room → 6 ≤ 6 * linesIn b room
     enough true k = omega arith
     enough false k = omega arith

@@ -20,7 +20,7 @@ pub whole-size : (part all : List ℕ) (n : ℕ) → length part ≡ length (tak
 whole-size part all n e = omega (arith, length-append part (drop n all), length-drop n all, length-take n all)
 
 -- a line takes no more than its room
-pub lines-fit : (words : Bool) (count room : ℕ) → count ≤ linesIn words room → count * cond words 128 66 ≤ room
+pub lines-fit : (words : Bool) (count room : ℕ) → count ≤ linesIn words room → count * cond words 134 66 ≤ room
 lines-fit true count room h = omega arith
 lines-fit false count room h = omega arith
 

@@ -202,8 +202,8 @@ unfolding textOf
 text-plain w count numbers bytes e = rw e
 
 -- the room that lines take, with words and without
-pub room-words : (w : Bool) (count room : ℕ) → w ≡ true → count * cond w 128 66 ≤ room → count * 128 ≤ room
-room-words w count room e h = subst (λ b. count * cond b 128 66 ≤ room) e h
+pub room-words : (w : Bool) (count room : ℕ) → w ≡ true → count * cond w 134 66 ≤ room → count * 134 ≤ room
+room-words w count room e h = subst (λ b. count * cond b 134 66 ≤ room) e h
 
-pub room-plain : (w : Bool) (count room : ℕ) → w ≡ false → count * cond w 128 66 ≤ room → count * 66 ≤ room
-room-plain w count room e h = subst (λ b. count * cond b 128 66 ≤ room) e h
+pub room-plain : (w : Bool) (count room : ℕ) → w ≡ false → count * cond w 134 66 ≤ room → count * 66 ≤ room
+room-plain w count room e h = subst (λ b. count * cond b 134 66 ≤ room) e h

@@ -46,9 +46,9 @@ planText words bytes =
 unfoldable pub firstListing : Bool → Listing
 firstListing words = record { reader = firstReader; words = words }
 
--- as many lines as there is room for and 992 at most: a line takes 66 bytes at most, and 128 with words
+-- as many lines as there is room for and 992 at most: a line takes 66 bytes at most, and 134 with words
 abbrev pub linesIn : Bool → ℕ → ℕ
-linesIn words room = min 992 (room / cond words 128 66)
+linesIn words room = min 992 (room / cond words 134 66)
 
 -- a piece, with so much room
 abbrev pub heardIn : Listing → List ℕ → ℕ → Heard

@@ -68,7 +68,7 @@ fn lines_in(words: bool, room: usize) -> usize
     ensures { λ r. ⌜ r ≡ linesIn words room ⌝ }
 {
     if words {
-        return lines_of(room / 128);
+        return lines_of(room / 134);
     }
     lines_of(room / 66)
 }
@@ -82,7 +82,7 @@ fn put_lines(
     r: Reader,
     piece: &[u8],
 ) -> usize
-    requires { ⌜ (count * cond words 128 66 ≤ length (now out)) × (count * 6 ≤ length (now numbers)) ⌝ }
+    requires { ⌜ (count * cond words 134 66 ≤ length (now out)) × (count * 6 ≤ length (now numbers)) ⌝ }
     ensures { λ t. ⌜ t ≡ length (textOf words count (now (numbers .entry)) (sourceOf r (now (piece .entry)))) ⌝ }
     ensures { λ t. ⌜ now (out .exit) ≡ overFront (textOf words count (now (numbers .entry)) (sourceOf r (now (piece .entry)))) (now (out .entry)) ⌝ }
     ensures { λ t. ⌜ t ≤ length (now (out .exit)) ⌝ }

@@ -16,7 +16,7 @@ fn put_answers(out: &mut [u8], at: usize) -> usize
     text::put_bytes(
         out,
         at,
-        b"answers:\n  0 done\n  1 the board is not sound\n  2 W or H out of range\n  3 no such planner\n  4 the id is 0\n  5 width or height out of range\n  6 e or d out of range\n  7 the id is live already\n  8 d is before now + e\n  9 64 tasks are live\n  10 rejected: no place\n  11 the instant is before now\n  12 the instant is over 2000000000\n  13 the id is not live\n  14 the task is running\n  15 the record is cut short\n  16 unknown kind byte\n  17 the buffer is too short\n  18 the laxity is over 10000000\n",
+        b"answers:\n  0 done\n  1 the board is not sound\n  2 W, H or G out of range, or W no multiple of G\n  3 no such planner\n  4 the id is 0\n  5 w or h out of range, or w no multiple of G\n  6 e or d out of range\n  7 the id is live already\n  8 d is before now + e\n  9 64 tasks are live\n  10 rejected: no place\n  11 the instant is before now\n  12 the instant is over 2000000000\n  13 the id is not live\n  14 the task is running\n  15 the record is cut short\n  16 unknown kind byte\n  17 the buffer is too short\n  18 the laxity is over 10000000\n",
     )
 }
 

@@ -55,7 +55,7 @@ pub record Rowed (count : ℕ) (numbers bytes lent out : List ℕ) (place at i :
   pub whole : wordedRows count numbers bytes ≡ done ++ wordedRows (count - i) (drop (i * 6) numbers) (drop at bytes)
   pub put : Put lent 0 done out place
   pub upto : i ≤ count
-  pub within : place ≤ i * 128
+  pub within : place ≤ i * 134
   pub inside : at ≤ length bytes
   pub size : length out ≡ length lent
 
@@ -82,7 +82,7 @@ zero-rows numbers bytes = refl
 module _ {count : ℕ} {numbers bytes lent out : List ℕ} {place at i : ℕ} (o : Rowed count numbers bytes lent out place at i) where
   pub rows-more : i < count → (name : Name) → idIn name ≡ idRead (readFrom (drop at bytes)) → name .size ≡ sizeRead (readFrom (drop at bytes))
       → {after : List ℕ} {past : ℕ} → Put out place (wordedRow (take 6 (drop (i * 6) numbers)) (getD numbers (i * 6 + 2) 0) (idIn name)) after past
-      → past ≤ place + 128 → length after ≡ length out → Rowed count numbers bytes lent after past (at + name .size) (i + 1)
+      → past ≤ place + 134 → length after ≡ length out → Rowed count numbers bytes lent after past (at + name .size) (i + 1)
   rows-more h name n z {after} {past} p b s = record {
     done = o .done ++ row;
     whole = o .whole ∙ ap (λ x. o .done ++ x) (ap (λ m. wordedRows m (drop (i * 6) numbers) (drop at bytes)) left ∙ rows-one (count - (i + 1)) (drop (i * 6) numbers) (drop at bytes)
@@ -97,7 +97,7 @@ module _ {count : ℕ} {numbers bytes lent out : List ℕ} {place at i : ℕ} (o
       row : List ℕ
       row = wordedRow (take 6 (drop (i * 6) numbers)) (getD numbers (i * 6 + 2) 0) (idIn name)
 
-      more : (i + 1) * 128 ≡ i * 128 + 128
+      more : (i + 1) * 134 ≡ i * 134 + 134
       more = omega arith
 
       left : count - i ≡ suc (count - (i + 1))

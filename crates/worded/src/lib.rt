@@ -90,9 +90,9 @@ fn put_name(out: &mut [u8], at: usize, name: Name) -> usize
 
 // A line of six numbers with an id and the answer in words; the place after it.
 fn put_row(out: &mut [u8], at: usize, numbers: &[u32], from: usize, name: Name) -> usize
-    requires { ⌜ (at + 128 ≤ length (now out)) × (from + 6 ≤ length (now numbers)) ⌝ }
+    requires { ⌜ (at + 134 ≤ length (now out)) × (from + 6 ≤ length (now numbers)) ⌝ }
     ensures { λ r. ⌜ Put (now (out .entry)) at (wordedRow (take 6 (drop from (now (numbers .entry)))) (getD (now (numbers .entry)) (from + 2) 0) (idIn name)) (now (out .exit)) r ⌝ }
-    ensures { λ r. ⌜ r ≤ at + 128 ⌝ }
+    ensures { λ r. ⌜ r ≤ at + 134 ⌝ }
 {
     let answer = numbers[from + 2];
     let id_at = text::put_spaced(out, at, numbers, from, 6);
@@ -104,10 +104,10 @@ fn put_row(out: &mut [u8], at: usize, numbers: &[u32], from: usize, name: Name) 
 
 // Lines of six numbers each, with the ids of their events; how many bytes they take.
 pub fn put_rows(out: &mut [u8], numbers: &[u32], count: usize, bytes: &[u8]) -> usize
-    requires { ⌜ (count * 128 ≤ length (now out)) × (count * 6 ≤ length (now numbers)) ⌝ }
+    requires { ⌜ (count * 134 ≤ length (now out)) × (count * 6 ≤ length (now numbers)) ⌝ }
     ensures { λ r. ⌜ r ≡ length (wordedRows count (now (numbers .entry)) (now (bytes .entry))) ⌝ }
     ensures { λ r. ⌜ now (out .exit) ≡ overFront (wordedRows count (now (numbers .entry)) (now (bytes .entry))) (now (out .entry)) ⌝ }
-    ensures { λ r. ⌜ r ≤ count * 128 ⌝ }
+    ensures { λ r. ⌜ r ≤ count * 134 ⌝ }
 {
     let mut place: usize = 0;
     let mut at: usize = 0;

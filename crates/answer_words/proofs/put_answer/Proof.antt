@@ -12,8 +12,8 @@ use Rattle.answer_words.proofs.put_answer.Statement.{statement}
 use Rattle.answer_words.proofs.put_answer.Tie as tie
 
 -- a word that was put is the answer's
-says : {before after word answer : List ℕ} {at past : ℕ} → answer ≡ word → after ≡ sets before at word → past ≡ at + length word → length word ≤ 39
-    → Put before at answer after past × (past ≤ at + 39)
+says : {before after word answer : List ℕ} {at past : ℕ} → answer ≡ word → after ≡ sets before at word → past ≡ at + length word → length word ≤ 45
+    → Put before at answer after past × (past ≤ at + 45)
 says {before} {at = at} e s p h = (record { stored = s ∙ ap (sets before at) (sym e); place = p ∙ ap (λ l. at + length l) (sym e) }, omega arith)
 
 -- no number past 18 is given
@@ -21,7 +21,7 @@ beyond : (n : ℕ) → 19 ≤ n → answerWords n ≡ []
 unfolding answerWords
 beyond n h = List·getD-eq-default answerTexts [] h
 
-says-nothing : (before : List ℕ) (at : ℕ) {answer : List ℕ} → answer ≡ [] → Put before at answer before at × (at ≤ at + 39)
+says-nothing : (before : List ℕ) (at : ℕ) {answer : List ℕ} → answer ≡ [] → Put before at answer before at × (at ≤ at + 45)
 says-nothing before at e = (
   record { stored = ap (sets before at) (sym e); place = (let y : at ≡ at + 0 = omega arith in y) ∙ ap (λ l. at + length l) (sym e) },
   omega arith,

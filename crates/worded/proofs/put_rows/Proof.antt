@@ -43,7 +43,7 @@ put-row-requires c κs =
     let l = c .before .before .before in
     let o = l .loop .inv in
     let turn = turn-fits (l .loop .i) (startOf l .args .count) 6 (omega arith) in
-    let room = turn-fits (l .loop .i) (startOf l .args .count) 128 (omega arith) in
+    let room = turn-fits (l .loop .i) (startOf l .args .count) 134 (omega arith) in
     (omega (arith, o .within, o .size), omega arith)
 
 add-at : tie.Need-add-at Inv-loop μ-loop
@@ -73,7 +73,7 @@ returns c =
     let l = c .before in
     let o = l .loop .inv in
     let all = rows-end o (omega arith) in
-    let most : l .loop .place ≤ startOf l .args .count * 128 = omega (arith, o .within, o .upto) in
+    let most : l .loop .place ≤ startOf l .args .count * 134 = omega (arith, o .within, o .upto) in
     (all .place ∙ zero-add _, (rows-front _ all (omega (arith, most)), most))
 
 pub put-rows-spec : {M : Type 1} → statement M
