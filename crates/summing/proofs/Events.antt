@@ -17,7 +17,7 @@ use Rattle.board.specs.Answers.{told}
 use Rattle.board.specs.Calls.{submitted}
 use Rattle.board.proofs.Placed.{placed-books}
 use Rattle.events.specs.declared.Event.{Event}
-use Rattle.events.specs.declared.Event.the-variants.{NewBoard, Submit, Clock, Withdraw}
+use Rattle.events.specs.declared.Event.the-variants.{NewBoard, Submit, Clock, Withdraw, GridBoard}
 use Rattle.events.specs.declared.Reading.{Reading}
 use Rattle.events.specs.declared.Reading.the-variants.{End, Got, CutShort, Unknown}
 use Rattle.events.specs.Records.{readFrom, submissionOf}
@@ -109,6 +109,7 @@ unfolding outcome told
 start-in-time s (NewBoard W H) = omega arith
 start-in-time s (Clock i) = omega arith
 start-in-time s (Withdraw n) = omega arith
+start-in-time s (GridBoard W H g) = omega arith
 start-in-time s (Submit n a) = go (submitted (s .board) n (submissionOf a) .answer) refl
   where
     go : (x : Answer) → submitted (s .board) n (submissionOf a) .answer ≡ x → told x .start ≤ lastInstant

@@ -19,11 +19,11 @@ use Rattle.board.specs.declared.Withdrawn.{Withdrawn}
 use Rattle.board.specs.declared.Answer.the-variants.{Refused}
 use Rattle.slots.specs.Slots.{withoutNamed}
 use Rattle.board.specs.Refusals.{liveOf, refusedCreate, refusedSubmit, refusedInstant, refusedWithdraw}
-use Rattle.board.specs.Calls.{orRefused, withTasks, freshBoard, created, withTask, taken, answered, submitted, boardAt, clocked, withdrawn}
+use Rattle.board.specs.Calls.{orRefused, withTasks, freshBoard, zeroBoard, created, withTask, taken, answered, submitted, boardAt, clocked, withdrawn}
 use Rattle.tasks.specs.Numbers.{device}
 use Rattle.planners.specs.Planners.{planned}
 use Rattle.events.specs.declared.Event.{Event}
-use Rattle.events.specs.declared.Event.the-variants.{NewBoard, Submit, Clock, Withdraw}
+use Rattle.events.specs.declared.Event.the-variants.{NewBoard, Submit, Clock, Withdraw, GridBoard}
 use Rattle.events.specs.declared.Reading.{Reading}
 use Rattle.events.specs.declared.Reading.the-variants.{End, Got, CutShort, Unknown}
 use Rattle.events.specs.Records.{readFrom, submissionOf}
@@ -42,20 +42,26 @@ unfolding taken withTask
 taken-now b a none = refl
 taken-now b a (some p) = refl
 
-pub clock-follows : (s : State) (v : Event) → clockAfter (s .board .now) v (outcome s v .answer .number) ≡ outcome s v .state .board .now
-unfolding clockAfter outcome created submitted clocked withdrawn answered freshBoard boardAt
-clock-follows s (NewBoard W H) = go (refusedCreate (device W H))
+-- a new board's clock is at 0, and so is that of the board of zeros
+board-now : (W H g : ℕ) → 0 ≡ created W H g .board .now
+unfolding created freshBoard
+board-now W H g = go (refusedCreate (device W H g))
   where
-    go : (k : ℕ) → 0 ≡ orRefused {A = Created} k (λ n. record { number = n; board = freshBoard (device 0 0) }) (record { number = 0; board = freshBoard (device W H) }) .board .now
+    go : (k : ℕ) → 0 ≡ orRefused {A = Created} k (λ n. record { number = n; board = zeroBoard }) (record { number = 0; board = freshBoard (device W H g) }) .board .now
     go zero = unfold orRefused in refl
     go (suc k) = unfold orRefused in refl
+
+pub clock-follows : (s : State) (v : Event) → clockAfter (s .board .now) v (outcome s v .answer .number) ≡ outcome s v .state .board .now
+unfolding clockAfter outcome submitted clocked withdrawn answered boardAt
+clock-follows s (NewBoard W H) = board-now W H 1
+clock-follows s (GridBoard W H g) = board-now W H g
 clock-follows s (Submit n a) = go (refusedSubmit (s .board) n (submissionOf a))
   where
     done : Submitted
-    done = taken (s .board) (submissionOf a) (planned (s .board .device .columns) (s .board .now) (liveOf (s .board)) (submissionOf a) n)
+    done = taken (s .board) (submissionOf a) (planned (s .board .device .grid) (s .board .device .columns) (s .board .now) (liveOf (s .board)) (submissionOf a) n)
 
     go : (k : ℕ) → s .board .now ≡ orRefused {A = Submitted} k (λ m. record { answer = Refused m; board = s .board }) done .board .now
-    go zero = unfold orRefused in sym (taken-now (s .board) (submissionOf a) (planned (s .board .device .columns) (s .board .now) (liveOf (s .board)) (submissionOf a) n))
+    go zero = unfold orRefused in sym (taken-now (s .board) (submissionOf a) (planned (s .board .device .grid) (s .board .device .columns) (s .board .now) (liveOf (s .board)) (submissionOf a) n))
     go (suc k) = unfold orRefused in refl
 clock-follows s (Clock i) = go (refusedInstant (s .board) i)
   where
