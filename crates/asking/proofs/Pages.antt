@@ -213,7 +213,7 @@ left-after b p n = go (refusedOpenings b (p .task))
     from k q = orRefused {A = List Place} k (λ j. []) (at q)
 
     go : (k : ℕ) → from k (lastOr here (take n (from k here))) ≡ drop n (from k here)
-    go zero = after-last (b .device .columns) (b .now) (liveOf b) (p .task) n here
+    go zero = after-last (b .device .grid) (b .device .columns) (b .now) (liveOf b) (p .task) n here
     go (suc k) = sym (none-left n)
 
 -- ROWS IN TWO PARTS
