@@ -186,7 +186,7 @@ demand-1-lowest = first-lowest
 
 pub demand-1-rising : (b : Board) (n i words : ℕ) (a : Submission)
     → Rises (instant-rows b i) × Rises (withdrawal-rows b n) × Rises (openings-rows b a) × Rises (horizon-rows b words)
-    × Rises (new-board-rows n i)
+    × Rises (new-board-rows n i words)
 unfolding pairwise? all?
 demand-1-rising b n i words a = (tt, tt, tt, tt, tt)
 
@@ -369,14 +369,18 @@ demand-2-buffer-written-again = buffer-written-again
 module _ (b : Board) (a : Submission) (s : SoundBoard b) (k : Reachable b a) where
   -- "the list of openings holds every start from now on, and column within the device, that overlaps no live task and meets the deadline": each of these, and no other
   pub demand-3-every : (q : Place) → IsOpening b a q → q ∈ allOpenings b a
-  demand-3-every = opens-listed (b .device .columns) (b .now) (liveOf b) a
+  demand-3-every = opens-listed (b .device .grid) (b .device .columns) (b .now) (liveOf b) a
 
   pub demand-3-only : (q : Place) → q ∈ allOpenings b a → IsOpening b a q
-  demand-3-only q m = listed-opens (b .device .columns) (b .now) (liveOf b) a m
+  demand-3-only q m = listed-opens (b .device .grid) (b .device .columns) (b .now) (liveOf b) a m
+
+  -- each begins on the grid (document 02, Q-3)
+  pub demand-3-on-grid : (q : Place) → q ∈ allOpenings b a → Steps (b .device .grid) (q .place - 1)
+  demand-3-on-grid q m = demand-2-grid (b .device .grid) (q .place) .0 (demand-3-only q m .on-grid)
 
   -- "each exactly once, by start and then column"
   pub demand-3-order : Sorted Before (allOpenings b a)
-  demand-3-order = openings-ordered (b .device .columns) (b .now) (liveOf b) a
+  demand-3-order = openings-ordered (b .device .grid) (b .device .columns) (b .now) (liveOf b) a
 
   pub demand-3-once : (d : Place) (i j : ℕ) → i < j → j < length (allOpenings b a) → getD (allOpenings b a) i d ≡ getD (allOpenings b a) j d → ⊥
   demand-3-once = ordered-once (allOpenings b a) demand-3-order

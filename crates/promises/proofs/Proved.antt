@@ -105,7 +105,7 @@ unfolding open-book
 openings-lax = refl
 
 -- document 02, Q-3: a board lent with a task at column 2 and g 4 is not sound, with the same task at column 5 it is; so it is with g = 1 at column 2
-lentWith : ℕ → ℕ → Board
+abbrev pub lentWith : ℕ → ℕ → Board
 lentWith g c = record {
   tasks = record { id = 1; e = 3; d = 9; start = 0; w = 4; h = 1; column = c; phase = Running } ∷ replicate 63 freeSlot;
   now = 0;
@@ -113,12 +113,12 @@ lentWith g c = record {
 }
 
 pub off-grid-unsound : (soundBoard (lentWith 4 2) ≡ false) × (soundBoard (lentWith 4 5) ≡ true) × (soundBoard (lentWith 1 2) ≡ true)
-unfolding open-book lentWith
+unfolding open-book
 off-grid-unsound = (refl, refl, refl)
 
 -- and it is answered 1
 pub off-grid-answered : (submitted (lentWith 4 2) 3 (record { id = 2; e = 1; d = 9; w = 4; h = 1 }) .answer ≡ Refused 1) × (submitted (lentWith 4 5) 3 (record { id = 2; e = 1; d = 9; w = 4; h = 1 }) .answer ≡ Placed 1 0 1)
-unfolding open-book lentWith
+unfolding open-book
 off-grid-answered = (refl, refl)
 
 -- THE LISTING OF DOCUMENT 01, from the bytes of its records to the bytes that `plan` prints
