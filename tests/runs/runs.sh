@@ -99,6 +99,52 @@ for question in horizon "busy 0" "openings 1 1 1 1" board "stamp 0"; do
     check "ask $question of no board" "answer 1" "$(tell $run ask --from "$work/none" $question)"
 done
 
+# columns in steps (document 02, Q-3): a third number of `board` is the grid, 1 where there is none
+cat >"$work/grid.txt" <<'END'
+board 10 1 4
+board 8 1 17
+board 8 1 4
+submit full 1 3 1 2 9
+submit full 1 4 1 2 9
+submit horizon 2 8 1 1 3
+END
+$run record "$work/grid.txt" >"$work/grid"
+check "plan, on a grid" "$header id answer
+1 5 2 0 0 0 - 2 W, H or G out of range, or W no multiple of G
+2 5 2 0 0 0 - 2 W, H or G out of range, or W no multiple of G
+3 5 0 0 0 0 - 0 done
+4 2 5 0 0 0 1 5 w or h out of range, or w no multiple of G
+5 2 0 1 0 2 1 0 done
+6 2 0 1 2 3 2 0 done" "$(tell $run plan --words "$work/grid")"
+check "ask board, on a grid" "answer 0
+8 1 0 4
+1 1 4 1 2 9 1 0 2 running
+2 2 8 1 1 3 1 2 3 waiting" "$(tell $run ask --from "$work/grid" board)"
+check "ask stamp, on a grid" "answer 0
+8 1 0 4
+1 1 4 1 2 9 1 0 2 ended
+2 2 8 1 1 3 1 2 3 running" "$(tell $run ask --from "$work/grid" stamp 2)"
+check "ask board, a grid of 1 is not shown" "answer 0
+8 1 0" "$(printf 'board 8 1 1\n' | $run record | tell $run ask board)"
+check "ask openings, on a grid" "answer 0
+0 5
+1 5
+3 1
+3 5
+end" "$(tell $run ask --from "$work/grid" openings 4 1 1 4)"
+check "ask openings, on a grid, after a pair off it" "answer 0
+1 5
+more" "$(tell $run ask --from "$work/grid" openings 4 1 1 4 1 2 1)"
+check "ask openings, a width off the grid" "answer 5" "$(tell $run ask --from "$work/grid" openings 3 1 1 4)"
+check "record, a grid of 1 is a kind of its own" " 05 08 00 01 00 01 01 08 00 01 00" "$(printf 'board 8 1 1\nboard 8 1\n' | $run record | od -An -tx1)"
+check "record, a grid that does not fit its byte" "~!
+record: line 1, word 4: '256': expected G, a number from 0 to 255, or the end of the line (board W H [G]); records written: 0
+status 1" "$(printf 'board 8 1 256\n' | tell $run record)"
+check "record, a word behind the grid" "~!
+record: line 1, word 5: '5': expected the end of the line (board W H [G]); records written: 0
+status 1" "$(printf 'board 8 1 4 5\n' | tell $run record)"
+check "summary, a board on a grid begins anew" "1" "$({ printf 'board 4 1\nclock 9\nboard 8 1 4\nsubmit full 1 4 1 1 9\n' | $run record; } | $run summary | awk '$1 == "full" && $3 > 0 { n += 1 } END { print n }')"
+
 # a deadline with a digit too many (document 02, Q-2): with now 5 and e 4 the last one is 10,000,009
 cat >"$work/lax.txt" <<'END'
 board 4 1
@@ -165,7 +211,7 @@ check "plan of it" "$header
 plan: event 2 (kind 0) is of no known kind (16): the rest was not read
 status 1" "$(tell $run plan "$work/typo")"
 check "record, a missing word" "~!
-record: line 1, word 3: the line ends: expected H, a number from 0 to 65535 (board W H); records written: 0
+record: line 1, word 3: the line ends: expected H, a number from 0 to 65535 (board W H [G]); records written: 0
 status 1" "$(printf 'board 4\n' | tell $run record)"
 check "record, a last line without a line feed" " 03 02 00 00 00" "$(printf 'clock 2' | $run record | od -An -tx1)"
 check "record, a byte order mark and CR LF" " 03 02 00 00 00" "$(printf '\357\273\277clock 2\r\n' | $run record | od -An -tx1)"

@@ -1,6 +1,6 @@
 // The planner of document 01 as one would first write it in Rust: a board changed in place, no test of its soundness.
 // Usage: baseline_calls PLANNER WORKLOAD ROUNDS [stats]. It prints the checksum of all answers; workload 4 by Full is the method
-// "every column at every visited time" on a board where no place exists. For workloads 5 and 6, lists of openings, PLANNER is
+// "every column at every visited time" on a board where no place exists. For workloads 5 to 7, lists of openings, PLANNER is
 // the number of the board.
 use std::env;
 
@@ -40,12 +40,13 @@ struct Device {
     slots: [Option<Live>; 64],
     width: u16,
     height: u16,
+    step: usize,
     now: u32,
 }
 
 impl Device {
     fn new(width: u16, height: u16) -> Device {
-        Device { slots: [None; 64], width, height, now: 0 }
+        Device { slots: [None; 64], width, height, step: 1, now: 0 }
     }
 
     fn live(&self) -> impl Iterator<Item = &Live> {
@@ -210,7 +211,7 @@ impl Device {
             let (mut run, mut open) = (0, from > 0);
             for (c, &held) in taken[..width].iter().enumerate().skip(from) {
                 run = if held { 0 } else { run + 1 };
-                if run >= need {
+                if run >= need && (c + 1 - need) % self.step == 0 {
                     if n == room {
                         return (n, true);
                     }
@@ -292,12 +293,18 @@ fn session(planner: u8, workload: usize, rounds: u32, stats: bool) -> u64 {
     sum
 }
 
-fn stuck(planner: u8, rounds: u32) -> u64 {
+// so many tasks, four columns each, side by side
+fn filled(live: u32) -> Device {
     let mut device = Device::new(256, 64);
-    for id in 1..64 {
+    for id in 1..=live {
         let exec = if id % 8 == 0 { 1_000_000 } else { 1000 + id % 64 * 16 };
         device.submit(3, Job { id, exec, deadline: 10_000_000, width: 4, height: 1 });
     }
+    device
+}
+
+fn stuck(planner: u8, rounds: u32) -> u64 {
+    let mut device = filled(63);
     (0..rounds).fold(0, |sum, round| {
         let job = Job { id: 1000, exec: 50 + round % 8, deadline: 500_000, width: 33, height: 1 };
         mix(sum, device.submit(planner, job))
@@ -369,6 +376,19 @@ fn pages(board: u8, rounds: u32, stats: bool) -> u64 {
     asking(device, job, (0, 0), true, &mut [0; 16384], rounds, stats)
 }
 
+// a whole list, in one column a step and in several
+fn stepped(board: u8, rounds: u32, stats: bool) -> u64 {
+    let (live, step, job) = match board {
+        0 => (0, 1, wanted(16, 1, 33)),
+        1 => (0, 16, wanted(16, 1, 33)),
+        2 => (32, 1, wanted(4, 1, 60)),
+        _ => (32, 4, wanted(4, 1, 60)),
+    };
+    let mut device = filled(live);
+    device.step = step;
+    asking(device, job, (0, 0), true, &mut [0; 16384], rounds, stats)
+}
+
 fn firsts(board: u8, rounds: u32, stats: bool) -> u64 {
     let (device, job, from) = match board {
         0 => (empty(), wanted(1, 1, 10_000_001), (0, 0)),
@@ -388,6 +408,7 @@ fn main() {
         4 => stuck(planner, rounds),
         5 => pages(planner, rounds, stats),
         6 => firsts(planner, rounds, stats),
+        7 => stepped(planner, rounds, stats),
         _ => session(planner, workload, rounds, stats),
     };
     println!("{sum}");

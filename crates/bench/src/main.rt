@@ -1,5 +1,5 @@
 // The benchmark (tests/time/bench.sh): sessions drawn by a small generator. A line of standard input is nine bytes: a digit for the
-// planner (for workloads 3, 5 and 6 the board), one for the workload, six for the number of rounds, and the end of the line.
+// planner (for workloads 3, 5, 6 and 7 the board), one for the workload, six for the number of rounds, and the end of the line.
 // Each is answered by a checksum.
 ghost use Prim.Native.Nat.{_≤_};
 use board::Answer;
@@ -135,9 +135,9 @@ fn stay(i: u32) -> u32 {
     1000 + i % 64 * 16
 }
 
-// A board of 256 columns with so many tasks, four columns each, side by side.
-fn filled(count: u32) -> Board {
-    let created = Board::new(256, 64);
+// A board of 256 columns on a grid, with so many tasks, four columns each, side by side.
+fn filled(count: u32, grid: u8) -> Board {
+    let created = Board::with_grid(256, 64, grid);
     let mut board = created.board;
     let mut i: u32 = 0;
     while i < count {
@@ -165,7 +165,7 @@ fn one_if(yes: bool) -> u64
 
 // 3: the soundness test alone, of so many live tasks.
 fn tested(count: u32, rounds: u32) -> u64 {
-    let mut board = filled(count);
+    let mut board = filled(count, 1);
     let mut sum: u64 = 0;
     let mut round: u32 = 0;
     while round < rounds {
@@ -178,7 +178,7 @@ fn tested(count: u32, rounds: u32) -> u64 {
 
 // 4: a task that fits nowhere among 63 others.
 fn stuck(planner: u8, rounds: u32) -> u64 {
-    let mut board = filled(63);
+    let mut board = filled(63, 1);
     let mut sum: u64 = 0;
     let mut round: u32 = 0;
     while round < rounds {
@@ -379,6 +379,21 @@ fn firsts(board: u8, rounds: u32) -> u64 {
     first(far, wanted(256, 1, 2_000_000_000), 1_999_999_998, 1, rounds)
 }
 
+// 7: a whole list of openings, in one column a step and in several. Empty, a task of 16 columns: 1 and 16 a step; 32 live tasks of
+// four columns and one more: 1 and 4 a step.
+fn stepped(board: u8, rounds: u32) -> u64 {
+    if board == 0 {
+        return paged(filled(0, 1), wanted(16, 1, 33), rounds);
+    }
+    if board == 1 {
+        return paged(filled(0, 16), wanted(16, 1, 33), rounds);
+    }
+    if board == 2 {
+        return paged(filled(32, 1), wanted(4, 1, 60), rounds);
+    }
+    paged(filled(32, 4), wanted(4, 1, 60), rounds)
+}
+
 fn live(planner: u8) -> u32 {
     if planner == 0 {
         return 0;
@@ -404,6 +419,9 @@ fn run(planner: u8, workload: u8, rounds: u32) -> u64 {
     }
     if workload == 6 {
         return firsts(planner, rounds);
+    }
+    if workload == 7 {
+        return stepped(planner, rounds);
     }
     stuck(planner, rounds)
 }

@@ -8,7 +8,7 @@ use native.Mathlib.Omega.{arith}
 use native.Mathlib.Decide.{decLt, ℕ-discrete as decEq}
 use lib.Dec.{T, ltb, ltb→lt, lt→ltb, not-T, T-not}
 use Rattle.lists.specs.Lists.{_∈_, some?}
-use Rattle.lists.proofs.Bools.{and-l, and-r, and-i, or-l, or-r, or-cases, is-true, is-false}
+use Rattle.lists.proofs.Bools.{and-l, and-r, and-i, or-l, or-r, or-cases, is-true}
 use Rattle.lists.proofs.Members.{some-pass, pass-some}
 use Rattle.tasks.specs.declared.Task.{Task}
 use Rattle.tasks.specs.Numbers.{multiple, mayBegin}

@@ -1,6 +1,6 @@
 -- The grid: with g = 1 the definitions are document 01's; where all live tasks lie on it, every planner answers as with g = 1. Assumes nothing.
-use Prim.Native.Nat.{ℕ, zero, suc, _+_, _-_, _*_, _/_, _%_, _≤_, _<_, max}
-use mathlib.Core.Path.{_≡_, refl, sym, ap, ap₂, _∙_, subst, fun-ext}
+use Prim.Native.Nat.{ℕ, zero, suc, _+_, _-_, _*_, _/_, _≤_, _<_, max}
+use mathlib.Core.Path.{_≡_, refl, sym, ap, _∙_, subst, fun-ext}
 use mathlib.Core.Logic.{_⊎_, inl, inr}
 use mathlib.Core.Bool.{Bool, not}
 use mathlib.Core.Option.{Option, none, some}
@@ -12,7 +12,7 @@ use lib.Dec.{T, leb, ltb, leb→le, le→leb, not-T, T-not}
 use Rattle.lists.specs.Lists.{_∈_, keep, some?, head?, firstOf, range}
 use Rattle.lists.proofs.Append.{range-more}
 use Rattle.lists.proofs.Bools.{not-not}
-use Rattle.lists.proofs.Members.{keep-in, in-keep, keep-all, none-pass, some-pass, map-in, in-map, highest-one, highest-from}
+use Rattle.lists.proofs.Members.{keep-in, keep-all, none-pass, some-pass, map-in, highest-one, highest-from}
 use Rattle.ways.specs.Ways.{pair, Ways, isOpen}
 use Rattle.tasks.specs.declared.Task.{Task}
 use Rattle.tasks.specs.declared.Submission.{Submission}
@@ -25,7 +25,7 @@ use Rattle.columns.proofs.Runs.{Longest, runs-longest}
 use Rattle.planners.specs.Openings.{Place, ways, full}
 use Rattle.planners.specs.Planners.{free, release, onGrid, leftEdge, visited, clearOfWaiting, candidates, releasedEdges, reference, horizon, stuffing, planned}
 use Rattle.planners.specs.Lent.{Stepped, runAt}
-use Rattle.planners.proofs.Openings.{Opening, Before, earlier, lower, full-opens, full-first, full-rejects, full-takes-one}
+use Rattle.planners.proofs.Openings.{Opening, Before, earlier, lower, full-opens, full-first, full-rejects}
 use Rattle.planners.proofs.Planners.{release-over, waiting-is-all}
 
 -- WITH g = 1 EVERY DEFINITION IS DOCUMENT 01'S: every column is a place, and every run is tried

@@ -11,9 +11,9 @@ use tasks::Task;
 fn task_sound(on: Device, now: u32, k: Task) -> bool
     ensures { λ r. ⌜ r ≡ taskSound on now k ⌝ }
 {
-    let size = tasks::size_fits(on, k.w, k.h);
+    let size = tasks::size_in_range(on, k.w, k.h);
     let time = tasks::time_fits(k.e, k.d);
-    let on_grid = tasks::may_begin(on.grid, k.column);
+    let on_grid = tasks::in_steps(on.grid, k.column, k.w);
     let phase = tasks::in_phase(k, now);
     ((1 <= k.id) & (k.id <= tasks::LARGEST_ID))
         & size

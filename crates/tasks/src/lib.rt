@@ -1,7 +1,8 @@
 // The task's own record: what a slot of the board holds, and what a submission asks for.
 ghost use mathlib.Core.Path.{_≡_};
+ghost use mathlib.Core.Bool.{_&&_};
 ghost use Prim.Native.Nat.{_+_};
-ghost use Rattle.tasks.specs.Numbers.{multiple, mayBegin, deviceFits, sizeFits, timeFits};
+ghost use Rattle.tasks.specs.Numbers.{within, multiple, mayBegin, deviceFits, sizeFits, timeFits};
 ghost use Rattle.tasks.specs.Tasks.{live, waitingPhase, samePhase, phaseAt, stamped, freeSlot, zeros, booked};
 
 // The limits of document 01, "Numbers": each once.
@@ -165,13 +166,25 @@ fn is_multiple(grid: u8, n: u16) -> bool
 }
 
 // Whether a task may begin at a column: "only where c − 1 is a multiple of g".
-pub fn may_begin(grid: u8, column: u16) -> bool
+fn may_begin(grid: u8, column: u16) -> bool
     ensures { λ r. ⌜ r ≡ mayBegin grid column ⌝ }
 {
     if column == 0 {
         return true;
     }
     is_multiple(grid, column - 1)
+}
+
+// Whether w columns from a column on are whole steps of the grid. A grid of 1 takes one branch: this is asked of every live task.
+pub fn in_steps(grid: u8, column: u16, w: u16) -> bool
+    ensures { λ r. ⌜ r ≡ (multiple grid w && mayBegin grid column) ⌝ }
+{
+    if grid == 1 {
+        return true;
+    }
+    let width = is_multiple(grid, w);
+    let begins = may_begin(grid, column);
+    width & begins
 }
 
 // "W 1 to 256; H 1 to 1,024"; "a grid g from 1 to 16", W a multiple of it.
@@ -185,12 +198,20 @@ pub fn device_fits(on: Device) -> bool
         & stepped
 }
 
-// "Width 1 to W; height 1 to H"; the width a multiple of the grid.
+// "Width 1 to W; height 1 to H".
+pub fn size_in_range(on: Device, w: u16, h: u16) -> bool
+    ensures { λ r. ⌜ r ≡ (within 1 (on .columns) w && within 1 (on .rows) h) ⌝ }
+{
+    ((1 <= w) & (w <= on.columns)) & ((1 <= h) & (h <= on.rows))
+}
+
+// And the width a multiple of the grid.
 pub fn size_fits(on: Device, w: u16, h: u16) -> bool
     ensures { λ r. ⌜ r ≡ sizeFits on w h ⌝ }
 {
+    let within = size_in_range(on, w, h);
     let stepped = is_multiple(on.grid, w);
-    ((1 <= w) & (w <= on.columns)) & ((1 <= h) & (h <= on.rows)) & stepped
+    within & stepped
 }
 
 // "execution e 1 to 1,000,000; deadline d .. 0 to 2,000,000,000".

@@ -5,13 +5,13 @@ use Rattle.bench.proofs.filled.Statement.{statement}
 use Rattle.bench.proofs.filled.Tie as tie
 
 abbrev Inv-loop : tie.InvT-loop
-Inv-loop count board₀ i₀ board i = Unit {0}
+Inv-loop count grid board₀ i₀ board i = Unit {0}
 
 abbrev μ-loop : tie.MeasureT-loop
-μ-loop count board₀ i₀ board i = count - i
+μ-loop count grid board₀ i₀ board i = count - i
 
-new-requires : tie.Need-new-requires Inv-loop μ-loop
-new-requires c κs = search needs
+with-grid-requires : tie.Need-with-grid-requires Inv-loop μ-loop
+with-grid-requires c κs = search needs
 
 loop-holds : tie.Need-loop-holds Inv-loop μ-loop
 loop-holds c = tt
@@ -40,7 +40,7 @@ filled-spec =
     (tie.spec
     Inv-loop
     μ-loop
-    new-requires
+    with-grid-requires
     loop-holds
     add-i
     stay-requires
