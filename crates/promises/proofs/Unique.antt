@@ -7,6 +7,7 @@ use mathlib.Core.List.{List}
 use Rattle.tasks.specs.declared.Task.{Task}
 use Rattle.tasks.specs.Tasks.{stampedAll}
 use Rattle.board.proofs.Board.new.Reads as new
+use Rattle.board.proofs.Board.with_grid.Reads as with-grid
 use Rattle.board.proofs.Board.is_sound.Reads as is-sound
 use Rattle.board.proofs.Board.submit.Reads as submit
 use Rattle.board.proofs.Board.clock.Reads as clock
@@ -33,6 +34,9 @@ one e f = e ∙ sym f
 
 pub new-unique : (κs : _) (a : _) (r q : _) (s t : _) → new.Post κs a r s → new.Post κs a q t → r ≡ q
 new-unique κs a r q s t e f = one e f
+
+pub with-grid-unique : (κs : _) (a : _) (r q : _) (s t : _) → with-grid.Post κs a r s → with-grid.Post κs a q t → r ≡ q
+with-grid-unique κs a r q s t e f = one e f
 
 pub is-sound-unique : (κs : _) (a : _) (r q : _) (s t : _) → is-sound.Post κs a r s → is-sound.Post κs a q t → r ≡ q
 is-sound-unique κs a r q s t e f = one e f
