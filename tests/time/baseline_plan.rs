@@ -39,6 +39,8 @@ struct Device {
     free: u64,
     w: u16,
     h: u16,
+    /// the columns of a step
+    g: u16,
     now: u32,
 }
 
@@ -61,17 +63,18 @@ fn runs(taken: &[bool], mut f: impl FnMut(u16, u16)) {
 
 impl Device {
     fn empty() -> Device {
-        Device { live: Vec::with_capacity(64), free: u64::MAX, w: 0, h: 0, now: 0 }
+        Device { live: Vec::with_capacity(64), free: u64::MAX, w: 0, h: 0, g: 0, now: 0 }
     }
 
-    fn create(&mut self, w: u16, h: u16) -> u8 {
+    fn create(&mut self, w: u16, h: u16, g: u8) -> u8 {
         self.live.clear();
         (self.free, self.w, self.h, self.now) = (u64::MAX, 0, 0, 0);
-        if w == 0 || w > 256 || h == 0 || h > 1_024 {
+        if w == 0 || w > 256 || h == 0 || h > 1_024 || g == 0 || g > 16 || w % g as u16 != 0 {
             return 2;
         }
         self.w = w;
         self.h = h;
+        self.g = g as u16;
         0
     }
 
@@ -125,7 +128,7 @@ impl Device {
         if job.id == 0 {
             return Err(4);
         }
-        if job.w == 0 || job.w > self.w || job.h == 0 || job.h > self.h {
+        if job.w == 0 || job.w > self.w || job.h == 0 || job.h > self.h || job.w % self.g != 0 {
             return Err(5);
         }
         if job.e == 0 || job.e > 1_000_000 || job.d > 2_000_000_000 {
@@ -341,6 +344,7 @@ fn main() -> io::Result<()> {
             1 => 5,
             2 => 18,
             3 | 4 => 5,
+            5 => 6,
             _ => {
                 printer.line(event, kind, 16, 0, 0, 0)?;
                 break;
@@ -352,7 +356,8 @@ fn main() -> io::Result<()> {
         }
         let record = &record[..length];
         let answer = match kind {
-            1 => device.create(u16_at(record, 1), u16_at(record, 3)),
+            1 => device.create(u16_at(record, 1), u16_at(record, 3), 1),
+            5 => device.create(u16_at(record, 1), u16_at(record, 3), record[5]),
             2 => {
                 let job = Job { id: u32_at(record, 2), w: u16_at(record, 6), h: u16_at(record, 8), e: u32_at(record, 10), d: u32_at(record, 14) };
                 match device.submit(record[1], &job) {

@@ -7,6 +7,7 @@ OURS, RUST = sys.argv[1:3]
 PLANNERS = ["Reference", "Horizon", "Stuffing", "Full"]
 WORKLOADS = ["0 the paper's, 96 columns", "1 256 columns, ~30 live", "2 256 columns, 55-63 live"]
 PAGES = ["empty, w 1", "64 live, w 4", "empty, w 33"]
+STEPPED = ["empty, w 16, one column a step", "the same, 16 columns a step", "32 live, w 4, one column a step", "the same, 4 columns a step"]
 FIRSTS = ["empty", "64 live, w 8", "blocked for 6,400,000 ticks", "the last one, at 1,999,999,999"]
 TURNS = 5
 
@@ -99,6 +100,15 @@ for b, label in enumerate(PAGES):
     all_agree = all_agree and agree
     rate = openings(b, rounds) / rounds / each / 1e6
     print(f"  {label:32}{rate:6.0f} million{ratio:8.2f}" + ("" if agree else "!") + ("  (bar: 40, goal: 200 million)" if b == 0 else ""), flush=True)
+print("a whole list of openings in one call; ours, time of ours / time of Rust, and of the time of one column a step:")
+plain = 0.0
+for b, label in enumerate(STEPPED):
+    rounds = max(enough(ours, b, 7), enough(rust, b, 7))
+    ratio, each, agree = pair(b, 7, rounds)
+    all_agree = all_agree and agree
+    if b % 2 == 0:
+        plain = each
+    print(f"  {label:32}{each * 1e9:6.0f} ns     {ratio:8.2f}" + ("" if agree else "!") + f"{each / plain:8.3f}", flush=True)
 print("the first opening, into a buffer of two words; ours, and time of ours / time of Rust:")
 for b, label in enumerate(FIRSTS):
     rounds = max(enough(ours, b, 6), enough(rust, b, 6))
