@@ -129,7 +129,8 @@ submitted-sound b n a big s = go (refusedSubmit b n a) refl
         let o = planned-opens (b .device .grid) (b .device .columns) (b .now) (liveOf b) a (k .reachable) n e in
         booked-sound (b .device) (b .now) (b .tasks) s (booked (b .now) a (p .start) (p .place)) (new-task b n a big k p o) (new-apart b n a big k p o)
 
-    go : (r : ℕ) → refusedSubmit b n a ≡ r → SoundBoard (orRefused r (λ x. record { answer = Refused x; board = b }) (taken b a (planned (b .device .grid) (b .device .columns) (b .now) (liveOf b) a n)) .board)
+    go : (r : ℕ) → refusedSubmit b n a ≡ r
+        → SoundBoard (orRefused r (λ x. record { answer = Refused x; board = b }) (taken b a (planned (b .device .grid) (b .device .columns) (b .now) (liveOf b) a n)) .board)
     go zero e = place (submit-accepted b n a e) (planned (b .device .grid) (b .device .columns) (b .now) (liveOf b) a n) refl
     go (suc r) e = s
 

@@ -131,7 +131,8 @@ module _ (b : Board) (n : ℕ) (a : Submission) (count free : ℕ) (rows : List 
   accepted e q z = submit-accepted b n a (refused-after e ∙ sym q ∙ z)
 
   -- the planners' answers, which the code finds as with g = 1, are the book's
-  planned-lent : Accepted b n a → planned 1 (b .device .columns) (b .now) (tasksOf count rows) (asked (a .w) (a .e) (a .d)) n ≡ planned (b .device .grid) (b .device .columns) (b .now) (liveOf b) a n
+  planned-lent : Accepted b n a
+      → planned 1 (b .device .columns) (b .now) (tasksOf count rows) (asked (a .w) (a .e) (a .d)) n ≡ planned (b .device .grid) (b .device .columns) (b .now) (liveOf b) a n
   planned-lent k =
       planned-orderless (same-tasks (b .device) (b .now) (b .tasks) count rows (o .stands) (o .good)) 1 W (b .now) (asked (a .w) (a .e) (a .d)) n
       ∙ by n (k .planner) ∙ sym (board-planned b a (k .sound) (k .stepped) n)

@@ -33,7 +33,8 @@ module _ {g : ℕ} (W t e : ℕ) {w : ℕ} {ts : List Task} (s : Stepped g W w t
   unfolding inStay
   clear-of c p q z u m b =
       not-T (covers c u) (λ k.
-      true≢false (sym (h c p q ∙ is-true (some? (inStay t e c) ts || ltb W c) (or-l (some? (inStay t e c) ts) (ltb W c) (pass-some (inStay t e c) ts m (and-i (overlap t (t + e) (from u) (finish u)) (covers c u) b k)))) ∙ z))
+      let met = pass-some (inStay t e c) ts m (and-i (overlap t (t + e) (from u) (finish u)) (covers c u) b k) in
+      true≢false (sym (h c p q ∙ is-true (some? (inStay t e c) ts || ltb W c) (or-l (some? (inStay t e c) ts) (ltb W c) met)) ∙ z))
 
   -- A CLEAR COLUMN NEXT TO A SET ONE may begin a task
   set-clear : (c : ℕ) → 1 ≤ c → c + 1 ≤ 256 → column words c ≡ true → column words (suc c) ≡ false → T (multiple g c)

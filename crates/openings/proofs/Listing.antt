@@ -158,7 +158,7 @@ module _ (q : Window) (g n : ℕ) (live : List ℕ) (a b : ℕ) (lent : List ℕ
           from-now = m .from-now;
           in-time = m .in-time;
           within = omega (arith, y .high, r .high, grid-fits);
-          on-grid = subst (λ n. T (multiple g n)) last (multiple-sum g (x - 1) (r .count * g) (first-on-grid (q .width) t (q .e) s words here (fits .wide) (m .on-grid) f z) (multiple-steps g (r .count)));
+          on-grid = subst (λ n. T (multiple g n)) last (multiple-sum g (x - 1) (r .count * g) begins (multiple-steps g (r .count)));
           few = m .few;
           ahead = m .ahead;
           held = m .held;
@@ -166,6 +166,9 @@ module _ (q : Window) (g n : ℕ) (live : List ℕ) (a b : ℕ) (lent : List ℕ
           written = write-run (m .written) (runAt t g x (r .count)) run v (omega (arith, run-length t g x (r .count))) room;
         }
           where
+            begins : T (multiple g (x - 1))
+            begins = first-on-grid (q .width) t (q .e) s words here (fits .wide) (m .on-grid) f z
+
             less : ℕ
             less = r .count - 1
 

@@ -138,9 +138,13 @@ module _ {g W : ℕ} {ts : List Task} (now : ℕ) (a : Submission) (o : Stepped 
   -- and so does every run of columns released by it
   pub released-begin : (i : ℕ) → onGrid g (runs (λ c. leb (release now ts c) i) (columns W)) ≡ runs (λ c. leb (release now ts c) i) (columns W)
   unfolding release
-  released-begin i = runs-begin g W (λ c. leb (release now ts c) i) (λ c x y. ends c (leb→le (release now ts (suc c)) i y) (λ h. T-not (leb (release now ts c) i) x (le→leb (release now ts c) i h)) (highest-one now (map finish (keep (covers c) ts))))
+  released-begin i =
+      runs-begin g W (λ c. leb (release now ts c) i) (λ c x y.
+      ends c (leb→le (release now ts (suc c)) i y) (λ h. T-not (leb (release now ts c) i) x (le→leb (release now ts c) i h))
+      (highest-one now (map finish (keep (covers c) ts))))
     where
-      ends : (c : ℕ) → release now ts (suc c) ≤ i → (release now ts c ≤ i → ⊥) → (release now ts c ≡ now) ⊎ (release now ts c ∈ map finish (keep (covers c) ts)) → T (multiple g c)
+      ends : (c : ℕ) → release now ts (suc c) ≤ i → (release now ts c ≤ i → ⊥)
+          → (release now ts c ≡ now) ⊎ (release now ts c ∈ map finish (keep (covers c) ts)) → T (multiple g c)
       ends c y x (inl z) = absurd (x (omega (arith, highest-from now (map finish (keep (covers (suc c)) ts)))))
       ends c y x (inr n) =
           let m = map-in finish (keep (covers c) ts) n in

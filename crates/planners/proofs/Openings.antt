@@ -137,7 +137,8 @@ module _ (g W now : ℕ) (ts : List Task) (a : Submission) where
   after-last k q = after-part (ways g W now ts a) 0 lawful k q (openingsAfter (ways g W now ts a) q) refl
 
   -- a pair further right at the same start, no column between them where a task may begin: the same ones come after it
-  pub after-beside : (t c x : ℕ) → ((y : ℕ) → 1 ≤ y → T (mayBegin g y) → ltb c y ≡ ltb x y) → openingsAfter (ways g W now ts a) (pair t c) ≡ openingsAfter (ways g W now ts a) (pair t x)
+  pub after-beside : (t c x : ℕ) → ((y : ℕ) → 1 ≤ y → T (mayBegin g y) → ltb c y ≡ ltb x y)
+      → openingsAfter (ways g W now ts a) (pair t c) ≡ openingsAfter (ways g W now ts a) (pair t x)
   unfolding openingsAfter after ways
   after-beside t c x h =
       keep-agree (after (ways g W now ts a) (pair t c)) (after (ways g W now ts a) (pair t x)) (openings g W now ts a)

@@ -49,12 +49,12 @@ use Rattle.events.proofs.RoundTrip.{Fits, Bytes, read-written, written-again}
 use Rattle.events.specs.declared.Reading.{Reading}
 use Rattle.events.specs.declared.Written.the-variants.{NoRoom, Length}
 use Rattle.events.proofs.Writing.{short-answer, short-buffer, room-answer, room-buffer}
-use Rattle.promises.proofs.Clauses.{Any, Row, First, Clear, Given, Holding, numbers, Rises, Steps, Reads, too-lax, new-board-rows, submission-rows, instant-rows, withdrawal-rows, openings-rows}
-use Rattle.promises.proofs.Clauses.{horizon-rows, Books, Ages, Removes, ListsRuns, CountsHeld, Stamps}
+use Rattle.promises.proofs.Clauses.{Any, Row, First, Clear, Given, Holding, numbers, Rises, Steps, Reads, too-lax, new-board-rows, submission-rows, instant-rows}
+use Rattle.promises.proofs.Clauses.{withdrawal-rows, openings-rows, horizon-rows, Books, Ages, Removes, ListsRuns, CountsHeld, Stamps}
 use Rattle.promises.proofs.Following.{books, books-nothing, ages, removes, lists-runs, counts-held, opened-board, stamps, stamps-all, buffer-reads-back, buffer-written-again}
 use Rattle.promises.proofs.Settled.{books-settled, ages-settled, removes-settled, runs-settled, held-settled, stamps-settled}
-use Rattle.promises.proofs.Refusing.{first-refused, clear-done, told-given, given-once, clear-first, first-before, first-lowest, refused-first, steps-out, steps-in, what-reads, reads-that, decides-new-board}
-use Rattle.promises.proofs.Refusing.{decides-submission, decides-instant, decides-withdrawal, decides-openings, decides-horizon}
+use Rattle.promises.proofs.Refusing.{first-refused, clear-done, told-given, given-once, clear-first, first-before, first-lowest, refused-first, steps-out, steps-in}
+use Rattle.promises.proofs.Refusing.{what-reads, reads-that, decides-new-board, decides-submission, decides-instant, decides-withdrawal, decides-openings, decides-horizon}
 use Rattle.promises.proofs.AskingOn.{allOpenings, reply, askingOn, saidMore, Roomy, ordered-once, from-none, reply-answers, reply-writes, more-true, more-false, asking-gives-all}
 use Rattle.promises.proofs.AskingOn.{asking-ends, asked-to-end}
 use Rattle.promises.proofs.Published.{AnswersAs, FreeRun, ReleasedRun, VisitsEach, IsFinish, IsRelease, LastFinish, reference-as, horizon-as, stuffing-as, free-out, free-in}
@@ -81,9 +81,10 @@ pub demand-1-takes-any : Any new.Asked × Any with-grid.Asked × Any is-sound.As
 demand-1-takes-any =
     (λ κs a. tt, λ κs a. tt, λ κs a. tt, λ κs a. tt, λ κs a. tt, λ κs a. tt, λ κs a. tt, λ κs a. tt, λ κs a. tt, λ κs a. tt, λ κs a. tt, λ κs a. tt, λ κs a. tt)
 
--- "Bad input gets the refusal number that document 01 fixes, in its order of checks" (18, and what the grid adds to 2 and 5, are document 02's); "a refusal hands the board back as it came and writes nothing
--- to a lent buffer." Each call's rows stand in Clauses: a number and when exactly it is given, in the order of its checks. `First rows k`: the first
--- row that holds has the number k. `Clear rows`: none holds. `Given rows k`: k is the number of the first that holds, or 0 where none does.
+-- "Bad input gets the refusal number that document 01 fixes, in its order of checks" (18, and what the grid adds to 2 and 5, are document 02's);
+-- "a refusal hands the board back as it came and writes nothing to a lent buffer." Each call's rows stand in Clauses: a number and when exactly it
+-- is given, in the order of its checks. `First rows k`: the first row that holds has the number k. `Clear rows`: none holds. `Given rows k`: k is
+-- the number of the first that holds, or 0 where none does.
 -- The first row that holds gives the whole answer:
 pub demand-1-submission : (b : Board) (n : ℕ) (a : Submission) {k : ℕ} → First (submission-rows b n a) k → submitted b n a ≡ record { answer = Refused k; board = b }
 unfolding submitted refusedSubmit

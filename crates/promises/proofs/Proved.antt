@@ -40,8 +40,12 @@ open-lists : Unit {0}
 unfolding keep some? all? pairwise? head? orElse lastOr indexOf putFirst insertBy sortBy each firstOf range highest addTo rising isOpen pairsIn openingsIn after openingsAfter askedOn
 open-lists = tt
 
+open-tasks : Unit {0}
+unfolding multiple mayBegin meets covers holds phaseAt stamped zeros booked join runs better bestFit
+open-tasks = tt
+
 open-planners : Unit {0}
-unfolding meets covers holds phaseAt stamped zeros booked join runs better bestFit multiple mayBegin ways full free release onGrid visited clearOfWaiting candidates releasedEdges reference horizon stuffing planned
+unfolding ways full free release onGrid visited clearOfWaiting candidates releasedEdges reference horizon stuffing planned
 open-planners = tt
 
 open-lookups : Unit {0}
@@ -77,7 +81,7 @@ unfolding listingEvents listingPrinted recording
 open-listing = tt
 
 unfoldable pub open-book : Unit {0}
-unfolding open-lists open-planners open-lookups open-board open-refusals open-records open-cases open-sets open-listing open-texts
+unfolding open-lists open-tasks open-planners open-lookups open-board open-refusals open-records open-cases open-sets open-listing open-texts
 open-book = tt
 
 -- CASES 1 TO 9 OF DOCUMENT 01
@@ -117,7 +121,8 @@ unfolding open-book
 off-grid-unsound = (refl, refl, refl)
 
 -- and it is answered 1
-pub off-grid-answered : (submitted (lentWith 4 2) 3 (record { id = 2; e = 1; d = 9; w = 4; h = 1 }) .answer ≡ Refused 1) × (submitted (lentWith 4 5) 3 (record { id = 2; e = 1; d = 9; w = 4; h = 1 }) .answer ≡ Placed 1 0 1)
+pub off-grid-answered : let a = record { id = 2; e = 1; d = 9; w = 4; h = 1 } in
+    (submitted (lentWith 4 2) 3 a .answer ≡ Refused 1) × (submitted (lentWith 4 5) 3 a .answer ≡ Placed 1 0 1)
 unfolding open-book
 off-grid-answered = (refl, refl)
 

@@ -388,4 +388,5 @@ module _ (b : Board) (a : Submission) where
   unfolding releasedEdges onGrid
   released-run-opens t r l h o =
       let released : ℕ → Bool = λ c. leb (release (b .now) ts c) t in
-      released-opens g W (b .now) ts a t l h (in-map (leftEdge t) (in-fit (a .w) (onGrid g (runs released (columns W))) (in-keep begins (longest-runs released 1 W r (o .longest)) (o .on-grid)) (o .wide)))
+      let fits = in-fit (a .w) (onGrid g (runs released (columns W))) (in-keep begins (longest-runs released 1 W r (o .longest)) (o .on-grid)) (o .wide) in
+      released-opens g W (b .now) ts a t l h (in-map (leftEdge t) fits)

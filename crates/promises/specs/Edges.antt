@@ -55,11 +55,13 @@ edgeSet =
     ∷ case 1 1 (grid 10 1 4 ∷ grid 8 1 0 ∷ clock 0 ∷ grid 17 1 17 ∷ grid 256 1 16 ∷ grid 257 1 1 ∷ grid 8 1 4 ∷ submit 0 1 2 1 1 9 ∷ board 8 1 ∷ submit 0 1 2 1 1 9 ∷ [])
     (only 2 ∷ only 2 ∷ only 1 ∷ only 2 ∷ only 0 ∷ only 2 ∷ only 0 ∷ only 5 ∷ only 0 ∷ at 1 0 1 ∷ [])
     -- 8 × 1, g 4: w 3 gives 5, in openings too; w 4, e 1, d 3 has six openings, and after (0, 2), off the grid, comes (0, 5); page by page with room for one
-    ∷ case 1 1 (grid 8 1 4 ∷ submit 0 1 3 1 1 3 ∷ openings 3 1 1 3 0 0 3 ∷ openings 4 1 1 3 0 0 14 ∷ openings 4 1 1 3 0 2 4 ∷ openings 4 1 1 3 0 1 2 ∷ openings 4 1 1 3 0 5 2 ∷ openings 4 1 1 3 2 1 5 ∷ [])
+    ∷ case 1 1 (grid 8 1 4 ∷ submit 0 1 3 1 1 3 ∷ openings 3 1 1 3 0 0 3 ∷ openings 4 1 1 3 0 0 14
+    ∷ openings 4 1 1 3 0 2 4 ∷ openings 4 1 1 3 0 1 2 ∷ openings 4 1 1 3 0 5 2 ∷ openings 4 1 1 3 2 1 5 ∷ [])
     (only 0 ∷ only 5 ∷ (5 ∷ 0 ∷ 0 ∷ replicate 3 999) ∷ (0 ∷ 6 ∷ 0 ∷ 0 ∷ 1 ∷ 0 ∷ 5 ∷ 1 ∷ 1 ∷ 1 ∷ 5 ∷ 2 ∷ 1 ∷ 2 ∷ 5 ∷ replicate 2 999)
     ∷ (0 ∷ 2 ∷ 1 ∷ 0 ∷ 5 ∷ 1 ∷ 1 ∷ []) ∷ (0 ∷ 1 ∷ 1 ∷ 0 ∷ 5 ∷ []) ∷ (0 ∷ 1 ∷ 1 ∷ 1 ∷ 1 ∷ []) ∷ (0 ∷ 1 ∷ 0 ∷ 2 ∷ 5 ∷ replicate 3 999) ∷ [])
     -- the prototype of the source, four columns a step: the planners go from step to step
-    ∷ case 1 1 (grid 16 1 4 ∷ submit 0 1 4 1 4 9 ∷ submit 2 2 4 1 2 9 ∷ submit 1 3 8 1 3 9 ∷ submit 3 4 8 1 1 9 ∷ submit 2 5 8 1 2 5 ∷ submit 0 6 4 1 1 9 ∷ openings 8 1 1 5 0 0 6 ∷ [])
+    ∷ case 1 1 (grid 16 1 4 ∷ submit 0 1 4 1 4 9 ∷ submit 2 2 4 1 2 9 ∷ submit 1 3 8 1 3 9 ∷ submit 3 4 8 1 1 9
+    ∷ submit 2 5 8 1 2 5 ∷ submit 0 6 4 1 1 9 ∷ openings 8 1 1 5 0 0 6 ∷ [])
     (only 0 ∷ at 1 0 4 ∷ at 5 0 2 ∷ at 9 0 3 ∷ at 5 3 4 ∷ only 10 ∷ only 10 ∷ (0 ∷ 3 ∷ 0 ∷ 4 ∷ 1 ∷ 4 ∷ 5 ∷ 4 ∷ 9 ∷ []) ∷ [])
     -- rows are rows: a height over W but within H, before and after the clock
     ∷ case 1 2 (submit 0 1 1 2 1 9 ∷ clock 0 ∷ submit 0 2 1 3 1 9 ∷ clock 1 ∷ submit 0 2 1 2 1 9 ∷ []) (at 1 0 1 ∷ only 0 ∷ only 5 ∷ only 0 ∷ at 1 1 2 ∷ [])

@@ -69,7 +69,8 @@ module _ (W now : ℕ) (ts : List Task) (w e d : ℕ) {t : ℕ} (small : W ≤ 2
   edge-fits q m =
       same-bool (clearOfWaiting W now ts (asked w e d) t (leftEdge t q)) (column fit (q .left))
       (λ b.
-      let o = candidate-opens 1 W now ts (asked w e d) t from in-time (subst (λ ps. leftEdge t q ∈ ps) (sym (candidates-one W now ts (asked w e d) t)) (in-keep (clearOfWaiting W now ts (asked w e d) t) (in-map (leftEdge t) m) b)) in
+      let n = in-keep (clearOfWaiting W now ts (asked w e d) t) (in-map (leftEdge t) m) b in
+      let o = candidate-opens 1 W now ts (asked w e d) t from in-time (subst (λ ps. leftEdge t q ∈ ps) (sym (candidates-one W now ts (asked w e d) t)) n) in
       f .begins (q .left) (o .from-one) (opens-clear W t e ts stay h 1 now w d (q .left) small o))
       (λ b.
       let o = clear-opens W t e ts stay h 1 now w d (q .left) wide (rw (begin-one (q .left)) tt) (f .from-one (q .left) b) from in-time (f .clear (q .left) b) in

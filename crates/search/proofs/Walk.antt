@@ -16,7 +16,7 @@ use Rattle.planners.specs.declared.Found.{Found}
 use Rattle.planners.specs.declared.Window.{Window}
 use Rattle.planners.specs.Openings.{Place, ways, full}
 use Rattle.planners.specs.Planners.{candidates, stuffing}
-use Rattle.planners.specs.Lent.{Fits, wanted, foundOf}
+use Rattle.planners.specs.Lent.{Fits, Stepped, wanted, foundOf}
 use Rattle.planners.proofs.Grid.{stepped-one}
 use Rattle.planners.proofs.Openings.{lawful}
 use Rattle.planners.proofs.Walk.{Visits, visits-start, visits-hit, visits-none, visits-on, not-before, next-time}
@@ -79,6 +79,10 @@ module _ (q : Window) (n : ℕ) (live : List ℕ) (o : OnDevice (q .width) n liv
   abbrev ts : List Task
   ts = tasksOf n live
 
+  -- with g = 1 any tasks lie on the grid
+  any : Stepped 1 (q .width) (q .w) ts
+  any = stepped-one (q .width) (q .w) ts
+
   module _ {whole : Bool} {t : ℕ} (k : Stands q ts whole t) where
     -- at t: the columns held during the stay, and where w clear ones begin
     module _ {stay fit : List ℕ} (h : Held (q .width) t (q .e) ts stay) (f : Fit stay (q .w) fit) where
@@ -87,7 +91,7 @@ module _ (q : Window) (n : ℕ) (live : List ℕ) (o : OnDevice (q .width) n liv
       unfolding head?
       walk-first {c} z l b =
           sym (ap (λ v. Answer v q ts) z ∙ ap foundOf (k .openings z
-          ∙ ap head? (rest-first 1 (q .width) (q .clock) n live o (q .w) (q .e) (q .d) (stepped-one (q .width) (q .w) ts) (fits .wide) (k .from-now) (k .in-time) stay h (multiple-zero 1) (fit-first (fits .wide) f l b) (l .low))))
+          ∙ ap head? (rest-first 1 (q .width) (q .clock) n live o (q .w) (q .e) (q .d) any (fits .wide) (k .from-now) (k .in-time) stay h (multiple-zero 1) (fit-first (fits .wide) f l b) (l .low))))
 
       -- none: nothing is open
       pub blocked-none : {c : ℕ} → Least (column fit) 1 257 c → 257 ≤ c → Blocked q ts whole t stay
@@ -120,7 +124,7 @@ module _ (q : Window) (n : ℕ) (live : List ℕ) (o : OnDevice (q .width) n liv
 
     module _ {stay : List ℕ} (b : Blocked q ts whole t stay) {u : ℕ} (x : NextFinish live n t u) where
       jump : whole ≡ true → Left q ts u
-      jump z = k .openings z ∙ ap head? (rest-jump 1 (q .width) (q .clock) n live o (q .w) (q .e) (q .d) (stepped-one (q .width) (q .w) ts) (fits .wide) (k .from-now) (k .in-time) stay (b .held) (b .no-opening z) x)
+      jump z = k .openings z ∙ ap head? (rest-jump 1 (q .width) (q .clock) n live o (q .w) (q .e) (q .d) any (fits .wide) (k .from-now) (k .in-time) stay (b .held) (b .no-opening z) x)
 
       -- NONE IS LEFT
       pub walk-over : q .d - q .e < u → Nothing ≡ Answer whole q ts

@@ -3,7 +3,8 @@ use Prim.Native.Nat.{ℕ, suc, _+_, _-_, _*_, _/_, _%_, _≤_, _<_, _∣_}
 use mathlib.Core.Path.{_≡_, sym, ap, subst}
 use mathlib.Core.Bool.{true}
 use native.Mathlib.Omega.{arith}
-use native.Mathlib.Nat.{zero-mod, mod-zero, mod-one, mod-lt, mod-le, mod-eq-sub-div-mul, div-mul-le-self, div-mul-cancel, dvd-refl, dvd-mul-left, dvd-add, dvd-sub, le-of-dvd, mod-eq-zero-of-dvd, dvd-of-mod-eq-zero}
+use native.Mathlib.Nat.{zero-mod, mod-zero, mod-one, mod-lt, mod-le, mod-eq-sub-div-mul, div-mul-le-self, div-mul-cancel}
+use native.Mathlib.Nat.{dvd-refl, dvd-mul-left, dvd-add, dvd-sub, le-of-dvd, mod-eq-zero-of-dvd, dvd-of-mod-eq-zero}
 use lib.Dec.{T, eqb, eqb→eq}
 use borrow.Author.Tests.{eq-eqb}
 use Rattle.tasks.specs.Numbers.{multiple, mayBegin}

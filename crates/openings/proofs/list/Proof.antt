@@ -7,7 +7,8 @@ use lib.ListN.{length}
 use Rattle.looking.specs.Looking.{Stopped}
 use Rattle.held.proofs.Free.{run-end}
 use Rattle.openings.proofs.Writing.{same-room}
-use Rattle.openings.proofs.Listing.{At, further, steps-on, later-tick, next-later, grid-fits, run-steps, list-late, list-begin, list-live, list-run, list-full, list-done, list-next, list-after, list-fresh}
+use Rattle.openings.proofs.Listing.{At, further, steps-on, later-tick, next-later, grid-fits, run-steps}
+use Rattle.openings.proofs.Listing.{list-late, list-begin, list-live, list-run, list-full, list-done, list-next, list-after, list-fresh}
 use borrow.Author.Needs.{needs}
 use mir.Syntax.{w64}
 use mir.Val.{Fits}
@@ -206,7 +207,8 @@ walk-again-2 c =
     let k = list-after _ _ _ _ _ _ _ (st .pre .0 .device) (st .pre .1) (st .pre .2) m g u (c .before .before .after2 .ensures) in
     let h = c .before .held-words2 .ensures (a .count) (st .pre .0) k in
     let v = c .next-change2 .ensures (a .count) (st .pre .0 .falling) k in
-    (at .walk .inv .0, list-fresh _ _ _ _ _ _ _ (st .pre .0 .device) (st .pre .1) (st .pre .2) m g (omega arith) u (omega (arith, st .pre .1 .in-time, c .before .before .before .before .if4 .left)) k _ _ h v)
+    let end = c .before .before .before .before .if4 .left in
+    (at .walk .inv .0, list-fresh _ _ _ _ _ _ _ (st .pre .0 .device) (st .pre .1) (st .pre .2) m g (omega arith) u (omega (arith, st .pre .1 .in-time, end)) k _ _ h v)
 
 walk-less-3 : tie.Need-walk-less-3 Inv-walk μ-walk
 walk-less-3 c =
