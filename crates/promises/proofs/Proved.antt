@@ -16,6 +16,7 @@ use Rattle.listing.specs.Listing.{headerText, listingText, stopText, endText, p
 use Rattle.lists.specs.Lists.{keep, some?, all?, pairwise?, head?, orElse, lastOr, indexOf, putFirst, insertBy, sortBy, each, firstOf, range, highest, addTo, rising}
 use Rattle.ways.specs.Ways.{isOpen, pairsIn, openingsIn, after, openingsAfter, askedOn}
 use Rattle.tasks.specs.declared.Phase.the-variants.{Running}
+use Rattle.tasks.specs.declared.Submission.{Submission}
 use Rattle.tasks.specs.Numbers.{multiple, mayBegin, device}
 use Rattle.tasks.specs.Tasks.{meets, covers, holds, phaseAt, stamped, freeSlot, zeros, booked}
 use Rattle.columns.specs.Columns.{join, runs, better, bestFit}
@@ -121,7 +122,7 @@ unfolding open-book
 off-grid-unsound = (refl, refl, refl)
 
 -- and it is answered 1
-pub off-grid-answered : let a = record { id = 2; e = 1; d = 9; w = 4; h = 1 } in
+pub off-grid-answered : let a : Submission = record { id = 2; e = 1; d = 9; w = 4; h = 1 } in
     (submitted (lentWith 4 2) 3 a .answer ≡ Refused 1) × (submitted (lentWith 4 5) 3 a .answer ≡ Placed 1 0 1)
 unfolding open-book
 off-grid-answered = (refl, refl)
