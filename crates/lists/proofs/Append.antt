@@ -258,7 +258,7 @@ module _ {A : Type 0} (p q : A → Bool) where
       step h false true g = omega arith
       step h false false g = h
 
-  pub count_less : {xs : List A} {a : A} → a ∈ xs → ((a : A) → a ∈ xs → T (p a) → T (q a)) → T (not (p a)) → T (q a) → length (keep p xs) < length (keep q xs)
+  pub count_less : {a : A} {xs : List A} → a ∈ xs → ((a : A) → a ∈ xs → T (p a) → T (q a)) → T (not (p a)) → T (q a) → length (keep p xs) < length (keep q xs)
   count_less {a} (here {x} {xs} e) f n y =
       let z = count-fewer xs (λ a m. f a (there m)) in
       rw (keep-no p x xs (rw (← e) n), keep-yes q x xs (rw (← e) y)) (omega arith)

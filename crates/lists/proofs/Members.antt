@@ -41,7 +41,7 @@ module _ {A : Type 0} where
           pick (inl q) = (here q, rw (q, e) tt)
           pick (inr m') = let r = below m' in (there r.0, r.1)
 
-  pub in-keep : (p : A → Bool) {xs : List A} {a : A} → a ∈ xs → T (p a) → a ∈ keep p xs
+  pub in-keep : (p : A → Bool) {a : A} {xs : List A} → a ∈ xs → T (p a) → a ∈ keep p xs
   in-keep p {a} (here {x} {xs} q) t = rw (keep-yes p x xs (rw (← q) t)) (here q)
   in-keep p {a} (there {x} {xs} m) t = step (in-keep p m t) (bool (p x))
     where
@@ -107,7 +107,7 @@ module _ {A B : Type 0} where
       step below (inl m') = (x, here refl, m')
       step below (inr m') = let r = below m' in (r.0, there r.1, r.2)
 
-  pub in-each : (f : A → List B) {xs : List A} {a : A} {b : B} → a ∈ xs → b ∈ f a → b ∈ each xs f
+  pub in-each : (f : A → List B) {a : A} {xs : List A} {b : B} → a ∈ xs → b ∈ f a → b ∈ each xs f
   unfolding each
   in-each f {a} {b} (here {x} {xs} q) m = Memᴰ.append_left (each xs f) (subst (λ y. b ∈ f y) q m)
   in-each f (there {x} {xs} n) m = Memᴰ.append_right (f x) (in-each f n m)
@@ -120,7 +120,7 @@ module _ {A B : Type 0} where
       step below (inl q) = (x, here refl, q)
       step below (inr m') = let r = below m' in (r.0, there r.1, r.2)
 
-  pub in_map : (f : A → B) {xs : List A} {a : A} → a ∈ xs → f a ∈ map f xs
+  pub in_map : (f : A → B) {a : A} {xs : List A} → a ∈ xs → f a ∈ map f xs
   in_map f (here q) = here (ap f q)
   in_map f (there m) = there (in_map f m)
 
@@ -261,7 +261,7 @@ module _ {A : Type 0} where
       step below (inr k) = inr (below k)
 
 -- the largest is not smaller than any, and is one of them
-pub highest-over : (n : ℕ) {xs : List ℕ} {x : ℕ} → x ∈ xs → x ≤ highest n xs
+pub highest-over : (n : ℕ) {x : ℕ} {xs : List ℕ} → x ∈ xs → x ≤ highest n xs
 unfolding highest
 highest-over n {x} (here {x = y} {xs} z) = omega arith
 highest-over n (there {x = y} {xs} m) = let h = highest-over n m in omega arith
