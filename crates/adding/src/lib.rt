@@ -7,7 +7,7 @@ ghost use Rattle.adding.specs.Machine.{ends_number, more_value, read, figures_in
 ghost use Rattle.adding.specs.Machine.{judged, ends, counted, byte_on, fed_on, text_begun, text_ended, state_of, state_in, begun_state, closing, refusal_text};
 
 // How far a text was read: the number that has begun; 0 between numbers, 1 in a number, 2 behind a slash.
-#[derive(Drop)]
+#[derive(Clone, Copy)]
 struct Reading {
     value: u64,
     mode: u8,
@@ -15,7 +15,7 @@ struct Reading {
 
 // Where the machine stands in a text: how many bytes and lines of a summary are held, the number of the line that the summary
 // begins with, whether the text held one before, and why it was refused: 0 not, 1 by a line, 2 by a sum past 64 bits.
-#[derive(Drop)]
+#[derive(Clone, Copy)]
 pub struct Standing {
     pub size: usize,
     pub lines: usize,
@@ -25,7 +25,7 @@ pub struct Standing {
 }
 
 // The sums so far, the bytes of a summary that has begun, the first `size` of them, and where the machine stands.
-#[derive(Drop)]
+#[derive(Clone, Copy)]
 pub struct Adding {
     pub total: [u64; 83],
     pub held: [u8; 4096],

@@ -1,4 +1,6 @@
 // The answer numbers of documents 01 and 02 in words.
+#![tactic(auto)]
+
 ghost use Rattle.std.specs.Prelude.{◌+◌, ◌≤◌, length};
 ghost use Rattle.text.specs.Digits.{Put};
 ghost use Rattle.answer_words.specs.AnswerWords.{answer_words};

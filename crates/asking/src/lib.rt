@@ -16,7 +16,7 @@ use session::Ending;
 use tasks::Submission;
 
 // Where the list of openings stands: the pair to go on after, and how many more rows were asked for.
-#[derive(Drop)]
+#[derive(Clone, Copy)]
 pub struct Page {
     pub task: Submission,
     pub start: u32,
@@ -25,7 +25,7 @@ pub struct Page {
 }
 
 // Where the program stands; `more` is true where a further part of the answer waits.
-#[derive(Drop)]
+#[derive(Clone, Copy)]
 pub struct Asking {
     pub reader: Reader,
     pub question: Question,
@@ -34,28 +34,28 @@ pub struct Asking {
 }
 
 // How much of a piece was taken.
-#[derive(Drop)]
+#[derive(Clone, Copy)]
 pub struct Fed {
     pub asking: Asking,
     pub taken: usize,
 }
 
 // How many bytes stand in the buffer for standard output, and in that for standard error.
-#[derive(Drop)]
+#[derive(Clone, Copy)]
 pub struct Closed {
     pub asking: Asking,
     pub used: usize,
     pub said: usize,
 }
 
-#[derive(Drop)]
+#[derive(Clone, Copy)]
 pub struct Went {
     pub asking: Asking,
     pub used: usize,
 }
 
 // A part of the answer: its bytes, and the page that follows.
-#[derive(Drop)]
+#[derive(Clone, Copy)]
 struct Part {
     used: usize,
     page: Page,

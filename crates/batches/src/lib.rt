@@ -3,7 +3,7 @@ ghost use Rattle.std.specs.Prelude.{◌≡◌, ◌≤◌, take};
 ghost use Rattle.batches.specs.Batches.{no_batch, spoilt, includes, name_of};
 
 // Whether help is asked for, summaries are to be added, an argument is wrong, a file is named.
-#[derive(Drop)]
+#[derive(Clone, Copy)]
 pub struct Batch {
     pub help: bool,
     pub add: bool,
@@ -12,7 +12,7 @@ pub struct Batch {
 }
 
 // The name of a file, its first `size` bytes; `-` for standard input.
-#[derive(Drop)]
+#[derive(Clone, Copy)]
 pub struct Name {
     pub bytes: [u8; 4096],
     pub size: usize,

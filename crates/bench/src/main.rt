@@ -8,7 +8,7 @@ use libc::{STDIN_FILENO, STDOUT_FILENO};
 use tasks::Submission;
 
 // What a session draws from: the least and how much more it may be.
-#[derive(Drop)]
+#[derive(Clone, Copy)]
 struct Load {
     columns: u16,
     w: u16,
@@ -278,7 +278,7 @@ fn total(buffer: &[u32]) -> u64 {
 }
 
 // A start and a column.
-#[derive(Drop)]
+#[derive(Clone, Copy)]
 struct Pair {
     start: u32,
     column: u32,

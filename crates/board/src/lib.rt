@@ -15,7 +15,7 @@ use planners::{Found, Window};
 use tasks::{Device, Submission, Task};
 
 // "A board is a device of W columns and H rows, a clock called now, and at most 64 live tasks." The device has a grid too.
-#[derive(Drop)]
+#[derive(Clone, Copy)]
 pub struct Board {
     pub tasks: [Task; 64],
     pub now: u32,
@@ -23,7 +23,7 @@ pub struct Board {
 }
 
 // "A submission is answered by one of three: a place, a rejection, or a refusal."
-#[derive(Drop)]
+#[derive(Clone, Copy)]
 pub enum Answer {
     Rejected,
     Placed {
@@ -35,32 +35,32 @@ pub enum Answer {
 }
 
 // Each call hands back the board that follows inside its own answer.
-#[derive(Drop)]
+#[derive(Clone, Copy)]
 pub struct Created {
     pub number: u8,
     pub board: Board,
 }
 
-#[derive(Drop)]
+#[derive(Clone, Copy)]
 pub struct Submitted {
     pub answer: Answer,
     pub board: Board,
 }
 
-#[derive(Drop)]
+#[derive(Clone, Copy)]
 pub struct Clocked {
     pub number: u8,
     pub board: Board,
 }
 
-#[derive(Drop)]
+#[derive(Clone, Copy)]
 pub struct Withdrawn {
     pub number: u8,
     pub board: Board,
 }
 
 // How many openings were written to the lent buffer, and whether a further one remains.
-#[derive(Drop)]
+#[derive(Clone, Copy)]
 pub struct Opened {
     pub number: u8,
     pub count: usize,
@@ -69,7 +69,7 @@ pub struct Opened {
 }
 
 // How many runs of the horizon were written to the lent buffer.
-#[derive(Drop)]
+#[derive(Clone, Copy)]
 pub struct Listed {
     pub number: u8,
     pub count: usize,
@@ -77,7 +77,7 @@ pub struct Listed {
 }
 
 // How many columns are held.
-#[derive(Drop)]
+#[derive(Clone, Copy)]
 pub struct Counted {
     pub number: u8,
     pub count: u32,

@@ -1,4 +1,6 @@
 // Free intervals and best fit over a predicate on columns: definitions (specs/), their meanings (proofs/), and best fit's order as a number.
+#![tactic(auto)]
+
 ghost use Rattle.std.specs.Prelude.{◌≡◌, ◌≤◌};
 ghost use Rattle.columns.specs.Columns.{key, left_of, up_to};
 

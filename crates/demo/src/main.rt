@@ -51,7 +51,7 @@ fn placed(answer: Answer, clock: u32, a: Submission) -> Task {
     }
 }
 
-#[derive(Drop)]
+#[derive(Clone, Copy)]
 struct Move {
     board: Board,
     task: Task,

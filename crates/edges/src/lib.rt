@@ -1,4 +1,6 @@
 // The left edges of runs of clear columns, in four words: which of them is taken.
+#![tactic(auto)]
+
 ghost use Rattle.std.specs.Prelude.{◌≡◌, not, ◌||◌, ℕ, ◌-◌, ◌≤◌, leb};
 ghost use Rattle.words.specs.Words.{column};
 ghost use Rattle.columns.specs.Columns.{columns, runs};

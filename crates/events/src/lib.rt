@@ -1,12 +1,14 @@
 // Event records of document 01, and kind 5 of document 02: one byte of kind, then a body whose length the kind fixes;
 // numbers little-endian.
+#![tactic(auto)]
+
 ghost use Rattle.std.specs.Prelude.{◌≡◌, ◌+◌, ◌<◌, length, drop};
 ghost use Rattle.events.specs.Records.{kind_of, new_board_in, submit_in, clock_in, withdraw_in, grid_board_in, whole_or15, read_from, written, written_buffer, submission_of, told_read, told_written};
 
 use tasks::Submission;
 
 // What an event of kind 2 asks for, as its body says it: its own, so that a later field of a submission changes no record.
-#[derive(Drop)]
+#[derive(Clone, Copy)]
 pub struct Ask {
     pub id: u32,
     pub e: u32,
@@ -17,7 +19,7 @@ pub struct Ask {
 
 // "an event's fields have the record's widths". A board on a grid is an event of its own, and not a new board with a
 // grid of 1 or more: so a record of kind 5 with g 1 is written again as kind 5, and one of kind 1 as kind 1.
-#[derive(Drop)]
+#[derive(Clone, Copy)]
 pub enum Event {
     NewBoard { columns: u16, rows: u16 },
     Submit { planner: u8, ask: Ask },
@@ -27,7 +29,7 @@ pub enum Event {
 }
 
 // What the reader returns: the event and the bytes it took; the end; 15 and 16 with the kind byte.
-#[derive(Drop)]
+#[derive(Clone, Copy)]
 pub enum Reading {
     End,
     Got(Event, usize),
@@ -36,7 +38,7 @@ pub enum Reading {
 }
 
 // What the writer returns: the record's length; 17.
-#[derive(Drop)]
+#[derive(Clone, Copy)]
 pub enum Written {
     NoRoom,
     Length(usize),

@@ -8,7 +8,7 @@ ghost use Rattle.figures.specs.Rows.{Roomy, bumped, clock_after, trial_read, clo
 use events::{Ask, Event, Reading};
 
 // A submission's planner, laxity class (0 to 3), the line of the summary that it came to, and the ticks that it waits.
-#[derive(Drop)]
+#[derive(Clone, Copy)]
 pub struct Verdict {
     pub planner: u8,
     pub class: u8,
@@ -106,7 +106,7 @@ fn count_event(figures: &mut [u64; 83], clock: u32, event: Event, answer: u32, s
 }
 
 // How many bytes the next record takes, 0 where there is no whole one, and the clock after its event.
-#[derive(Drop)]
+#[derive(Clone, Copy)]
 struct Next {
     size: usize,
     clock: u32,

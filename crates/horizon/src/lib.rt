@@ -11,7 +11,7 @@ use planners::{Found, Window};
 
 // What one pass over the columns at a time sees: the least key of a run that is wide enough, and the next release.
 // lists::NONE is none: a key and a time are less.
-#[derive(Drop)]
+#[derive(Clone, Copy)]
 struct Seen {
     key: u32,
     next: u32,

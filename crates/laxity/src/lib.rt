@@ -1,4 +1,6 @@
 // Laxity, its limit, and its classes.
+#![tactic(auto)]
+
 ghost use Rattle.std.specs.Prelude.{◌≡◌, ◌<◌, ltb};
 ghost use Rattle.laxity.specs.Laxity.{laxity, most_laxity, class_of};
 

@@ -7,7 +7,7 @@ use events::{Ask, Event};
 use tokens::Sort;
 
 // What a line says: nothing, an event, or which of its words is wrong, counted from 1, in a line of which kind (0: of none).
-#[derive(Drop)]
+#[derive(Clone, Copy)]
 pub enum Line {
     Nothing,
     Says(Event),

@@ -11,14 +11,14 @@ use reader::Reader;
 use session::Ending;
 
 // Where the program stands: the reader, and whether the answers are told in words.
-#[derive(Drop)]
+#[derive(Clone, Copy)]
 pub struct Listing {
     pub reader: Reader,
     pub words: bool,
 }
 
 // How much of a piece was taken, and how many bytes of text it gave.
-#[derive(Drop)]
+#[derive(Clone, Copy)]
 pub struct Listed {
     pub listing: Listing,
     pub taken: usize,
@@ -26,7 +26,7 @@ pub struct Listed {
 }
 
 // How many bytes are left for standard output and for standard error at the end.
-#[derive(Drop)]
+#[derive(Clone, Copy)]
 pub struct Closed {
     pub used: usize,
     pub said: usize,

@@ -13,7 +13,7 @@ use live::{Live, Masks};
 use planners::Window;
 
 // How many openings were written, and whether a further one remains.
-#[derive(Drop)]
+#[derive(Clone, Copy)]
 pub struct Filled {
     pub count: usize,
     pub more: bool,

@@ -1,9 +1,11 @@
 // What `plan` and `record` are told by their arguments.
+#![tactic(auto)]
+
 ghost use Rattle.std.specs.Prelude.{◌≡◌};
 ghost use Rattle.orders.specs.Orders.{no_order, refused, option, takes};
 
 // Whether help is asked for, answers in words are, an argument is wrong; which argument names the file, 0 for none.
-#[derive(Drop)]
+#[derive(Clone, Copy)]
 pub struct Order {
     pub help: bool,
     pub words: bool,

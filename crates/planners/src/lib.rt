@@ -2,14 +2,14 @@
 // The planners themselves are in the crates above: each is small enough to be proved again in seconds.
 
 // A place that was found: the column and the start.
-#[derive(Drop)]
+#[derive(Clone, Copy)]
 pub enum Found {
     Nothing,
     At { column: u32, start: u32 },
 }
 
 // What is asked of a device of `width` columns at `clock`: w columns for e ticks, done by d.
-#[derive(Drop)]
+#[derive(Clone, Copy)]
 pub struct Window {
     pub width: u32,
     pub clock: u32,

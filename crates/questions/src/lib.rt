@@ -6,7 +6,7 @@ ghost use Rattle.questions.specs.Questions.{right_or, openings_asked, asks};
 
 use tasks::Submission;
 
-#[derive(Drop)]
+#[derive(Clone, Copy)]
 pub enum Question {
     Wrong,
     Horizon,

@@ -12,7 +12,7 @@ use steps::State;
 
 // Where the reader stands: the state that follows the events so far, the begin of a record whose end has not come, and whether
 // and how the recording has ended.
-#[derive(Drop)]
+#[derive(Clone, Copy)]
 pub struct Reader {
     pub state: State,
     pub number: u32,
@@ -22,7 +22,7 @@ pub struct Reader {
 }
 
 // How many lines a piece has given, and how much of it was taken.
-#[derive(Drop)]
+#[derive(Clone, Copy)]
 pub struct Fed {
     pub reader: Reader,
     pub taken: usize,
@@ -43,7 +43,7 @@ pub fn begin() -> Reader
 }
 
 // The run left off before a record of no known kind, or not.
-#[derive(Drop)]
+#[derive(Clone, Copy)]
 struct Strange {
     known: bool,
     kind: u8,
@@ -168,7 +168,7 @@ fn hear(r: Reader, kept: usize, bytes: &[u8], answers: &mut [u32]) -> Fed
 }
 
 // The held bytes and those of the piece that may belong to their record.
-#[derive(Drop)]
+#[derive(Clone, Copy)]
 pub struct Joined {
     pub bytes: [u8; 18],
     pub size: usize,

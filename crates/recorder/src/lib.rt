@@ -15,7 +15,7 @@ use tokens::{Sort, Word};
 
 // Where the machine stands: the number of the line that it reads, the records so far, how many bytes of the line are held,
 // whether it goes on.
-#[derive(Drop)]
+#[derive(Clone, Copy)]
 pub struct Recorder {
     pub line: u64,
     pub records: u64,
@@ -24,7 +24,7 @@ pub struct Recorder {
 }
 
 // Where it then stands, how many bytes of the piece it took, and how many it wrote: records, and a message.
-#[derive(Drop)]
+#[derive(Clone, Copy)]
 pub struct Fed {
     pub recorder: Recorder,
     pub taken: usize,
@@ -310,7 +310,7 @@ fn put_record(out: &mut [u8], used: usize, event: Event) -> usize
 }
 
 // What a line made: the bytes of its output, how many records that is, whether the run goes on.
-#[derive(Drop)]
+#[derive(Clone, Copy)]
 pub struct Step {
     pub used: usize,
     pub said: usize,

@@ -1,4 +1,6 @@
 // The refusals of a call after number 1: the tests in the order of documents 01 and 02. The board is known to be sound.
+#![tactic(auto)]
+
 ghost use Rattle.std.specs.Prelude.{◌≡◌, ◌+◌, ltb};
 ghost use Rattle.refusals.specs.Refusals.{refusal, submit_tests, instant_tests, withdraw_tests, openings_tests};
 

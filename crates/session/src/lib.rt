@@ -17,7 +17,7 @@ pub const MOST_EVENTS: u32 = 1_000_000_000;
 
 // How a recording ends: not yet; after a whole record; in 15 or 16, with the kind byte; at the last event that may be, with no
 // byte after it, or with one.
-#[derive(Drop)]
+#[derive(Clone, Copy)]
 pub enum Ending {
     NotYet,
     AtEnd,
@@ -28,7 +28,7 @@ pub enum Ending {
 }
 
 // How many whole records were taken, their bytes, and the state that follows.
-#[derive(Drop)]
+#[derive(Clone, Copy)]
 pub struct Ran {
     pub count: usize,
     pub taken: usize,
@@ -70,7 +70,7 @@ pub fn room(words: usize, number: u32) -> usize
 }
 
 // The next whole record: its event and the bytes it takes, 0 where there is none.
-#[derive(Drop)]
+#[derive(Clone, Copy)]
 struct Whole {
     size: usize,
     event: Event,

@@ -1,4 +1,6 @@
 // A sheet of figures: what `summary` prints of them, and figures of two sheets added.
+#![tactic(auto)]
+
 ghost use Rattle.std.specs.Prelude.{◌≡◌, ◌+◌, ◌*◌, ◌<◌, ◌≤◌, [], ◌∷◌, ◌++◌, length, take, drop, nat_lt, slice_index_or};
 ghost use Rattle.lists.specs.Lists.{each, range};
 ghost use Rattle.text.specs.Text.{decimal};
@@ -8,7 +10,7 @@ ghost use Rattle.sheets.specs.Sheets.{planner_names, class_names, plus, wrapped,
 const ROWS: usize = 16;
 
 // The sums of two sheets, in 64 bits each, and whether none of them wraps.
-#[derive(Drop)]
+#[derive(Clone, Copy)]
 pub struct Sums {
     pub figures: [u64; 83],
     pub fit: bool,

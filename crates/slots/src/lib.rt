@@ -1,4 +1,6 @@
 // The 64 slots of a board: whether each by itself is sound, which has an id, and what the clock makes of them.
+#![tactic(auto)]
+
 ghost use Rattle.std.specs.Prelude.{◌≡◌, ◌≤◌};
 ghost use Rattle.lists.specs.Lists.{index_of};
 ghost use Rattle.tasks.specs.declared.Task.{Task};

@@ -13,7 +13,7 @@ use live::{Live, Masks};
 use tasks::{Device, Submission, Task};
 
 // The state of a run: what one event hands on to the next.
-#[derive(Drop)]
+#[derive(Clone, Copy)]
 pub struct State {
     pub board: Board,
 }
@@ -28,7 +28,7 @@ pub fn first_state() -> State
 }
 
 // The board inside a run in brief, without its slots: how many tasks are live, and which slots are theirs.
-#[derive(Drop)]
+#[derive(Clone, Copy)]
 pub struct Brief {
     pub clock: u32,
     pub device: Device,
@@ -38,7 +38,7 @@ pub struct Brief {
 }
 
 // What an event changed in the slots.
-#[derive(Drop)]
+#[derive(Clone, Copy)]
 pub enum Change {
     Nothing,
     Booked { slot: usize, task: Task },
@@ -47,7 +47,7 @@ pub enum Change {
 }
 
 // What an event did: document 01's number and values, the board in brief that follows, and what changed in the slots.
-#[derive(Drop)]
+#[derive(Clone, Copy)]
 pub struct Done {
     pub number: u8,
     pub column: u16,

@@ -8,7 +8,7 @@ use system::Pace;
 
 // The machine after a file, the name of the last file read, whether it could not be read, whether another may follow, and when a
 // terminal was last told how far it is.
-#[derive(Drop)]
+#[derive(Clone, Copy)]
 struct Summed {
     summing: Summing,
     name: Name,
@@ -98,7 +98,7 @@ fn sum_files(first: usize, end: usize) {
 }
 
 // The machine after a text, and whether another may follow: none where the text could not be read or was refused.
-#[derive(Drop)]
+#[derive(Clone, Copy)]
 struct Added {
     adding: Adding,
     on: bool,

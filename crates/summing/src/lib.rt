@@ -15,7 +15,7 @@ use reader::Reader;
 use session::Ending;
 
 // Where the summary stands: the reader of the file at hand, the figures so far, and how many events the files before it had.
-#[derive(Drop)]
+#[derive(Clone, Copy)]
 pub struct Summing {
     pub reader: Reader,
     pub figures: [u64; 83],
@@ -23,14 +23,14 @@ pub struct Summing {
 }
 
 // How much of a piece was taken.
-#[derive(Drop)]
+#[derive(Clone, Copy)]
 pub struct Summed {
     pub summing: Summing,
     pub taken: usize,
 }
 
 // How many bytes are written to standard output and to standard error at the end.
-#[derive(Drop)]
+#[derive(Clone, Copy)]
 pub struct Closed {
     pub used: usize,
     pub said: usize,

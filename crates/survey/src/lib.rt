@@ -8,7 +8,7 @@ use live::Live;
 use tasks::{Device, Task};
 
 // How many live tasks there are, which slots are theirs, and whether the slots are sound.
-#[derive(Drop)]
+#[derive(Clone, Copy)]
 pub struct Findings {
     pub count: usize,
     pub used: u64,

@@ -108,7 +108,7 @@ pub fn name_of(file: usize) -> Name
 
 // Where a piece of the input stands: from `from` to `to` it is still to be taken. `more`: the input has not ended. `failed`: it
 // could not be opened, or not be read to its end.
-#[derive(Drop)]
+#[derive(Clone, Copy)]
 pub struct Input {
     pub fd: i32,
     pub from: usize,
@@ -217,7 +217,7 @@ pub fn turns_left(more: bool, turns: u64) -> u64
 const TERMINAL_FILENO: i32 = 9;
 
 // When the terminal was last told how far it is: by the quarter of a second of the processor's time. Only a terminal is told.
-#[derive(Drop)]
+#[derive(Clone, Copy)]
 pub struct Pace {
     pub shows: bool,
     pub due: bool,
@@ -257,7 +257,7 @@ pub fn tick(p: Pace) -> Pace {
 }
 
 // What `summary` says before a message about a file: `summary: FILE: `.
-#[derive(Drop)]
+#[derive(Clone, Copy)]
 pub struct Label {
     pub bytes: [u8; 8192],
     pub size: usize,

@@ -1,4 +1,6 @@
 // Table 1 of source document 003 as a constant: the proving set and the demonstration read it.
+#![tactic(auto)]
+
 ghost use Rattle.std.specs.Prelude.{◌≡◌};
 ghost use Rattle.table1.specs.Table.{table1};
 

@@ -1,4 +1,6 @@
 // The task's own record: what a slot of the board holds, and what a submission asks for.
+#![tactic(auto)]
+
 ghost use Rattle.std.specs.Prelude.{◌≡◌, ◌&&◌, ◌+◌};
 ghost use Rattle.tasks.specs.Numbers.{within, multiple, may_begin, device_fits, size_fits, time_fits};
 ghost use Rattle.tasks.specs.Tasks.{live, waiting_phase, same_phase, phase_at, stamped, free_slot, zeros, booked};
@@ -21,7 +23,7 @@ pub const MOST_TASKS: usize = 64;
 pub const LAST_PLANNER: u8 = 3;
 
 // The columns and rows of a board, and the grid on which its columns come: what a task has to fit.
-#[derive(Drop)]
+#[derive(Clone, Copy)]
 pub struct Device {
     pub columns: u16,
     pub rows: u16,
@@ -29,7 +31,7 @@ pub struct Device {
 }
 
 // "each record carries its phase: waiting, running or ended". Ended is first: a free slot is then all zeros.
-#[derive(Drop)]
+#[derive(Clone, Copy)]
 pub enum Phase {
     Ended,
     Waiting,
@@ -37,7 +39,7 @@ pub enum Phase {
 }
 
 // "A record holds id, w, h, e, d, column, start and phase." Largest fields first: the record then has no holes (24 bytes).
-#[derive(Drop)]
+#[derive(Clone, Copy)]
 pub struct Task {
     pub id: u32,
     pub e: u32,
@@ -50,7 +52,7 @@ pub struct Task {
 }
 
 // What is asked of a planner or of the openings call, which does not read the id.
-#[derive(Drop)]
+#[derive(Clone, Copy)]
 pub struct Submission {
     pub id: u32,
     pub e: u32,

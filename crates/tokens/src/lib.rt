@@ -1,4 +1,6 @@
 // The words of a line or of a question, and the numbers that they are.
+#![tactic(auto)]
+
 ghost use Rattle.std.specs.Prelude.{◌≡◌, cond, ◌+◌, ◌-◌, ◌*◌, ◌≤◌, length, drop};
 ghost use Rattle.lists.specs.Lists.{index_of};
 ghost use Rattle.text.specs.Text.{value};
@@ -6,7 +8,7 @@ ghost use Rattle.tokens.specs.Tokens.{blank, stops_at, words, same, digit, empty
 ghost use Rattle.tokens.specs.Walks.{Next, Counted};
 
 // What a search stops at.
-#[derive(Drop)]
+#[derive(Clone, Copy)]
 pub enum Sort {
     Blank,
     Solid,
@@ -15,21 +17,21 @@ pub enum Sort {
 }
 
 // Where a word stands in its text; it has no byte where there is no word.
-#[derive(Drop)]
+#[derive(Clone, Copy)]
 pub struct Word {
     pub from: usize,
     pub to: usize,
 }
 
 // What a word is as a number.
-#[derive(Drop)]
+#[derive(Clone, Copy)]
 pub struct Number {
     pub fits: bool,
     pub value: u32,
 }
 
 // The numbers of some words; which of the words is wrong, counted from 1, or 0.
-#[derive(Drop)]
+#[derive(Clone, Copy)]
 pub struct Numbers {
     pub wrong: usize,
     pub values: [u32; 7],

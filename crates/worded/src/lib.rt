@@ -9,7 +9,7 @@ ghost use Rattle.worded.specs.Rows.{id_in, worded_row, id_read, size_read, worde
 use events::{Ask, Event, Reading};
 
 // The id that an event names, if it names one, and how many bytes the event takes.
-#[derive(Drop)]
+#[derive(Clone, Copy)]
 struct Name {
     named: bool,
     id: u32,

@@ -1,4 +1,6 @@
 // The columns of an instant in four words: column c, from 1 to 256, is digit (c - 1) % 64 of word (c - 1) / 64.
+#![tactic(auto)]
+
 ghost use Rattle.std.specs.Prelude.{◌≡◌, not, ◌&&◌, ◌||◌, ℕ, ◌+◌, ◌-◌, ◌<◌, ◌≤◌, min, leb, ltb, length};
 ghost use Rattle.lists.specs.Lists.{keep, range};
 ghost use Rattle.words.specs.Words.{bit, column, Least};

@@ -1,0 +1,12 @@
+-- `tokens::is_name` meets its contract. Assumes nothing.
+use Prim.Native.Nat.{◌-◌, ◌≤◌}
+use mathlib.Core.Path.{◌≡◌}
+use lib.ListN.{length, drop}
+use Rattle.tokens.specs.Tokens.{same}
+use Rattle.tokens.proofs.is_name.Given as goal
+
+abbrev pub invariant-loop-i : goal.invariant-loop-i
+invariant-loop-i l = (length l.word ≡ length l.name) × (l.i ≤ length l.word) × (same l.word l.name ≡ same (drop l.i l.word) (drop l.i l.name))
+
+abbrev pub decreases-loop-i : goal.decreases-loop-i
+decreases-loop-i l = length l.word - l.i
