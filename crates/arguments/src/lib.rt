@@ -1,4 +1,6 @@
 // The arguments of a program as one text, a space between two.
+#![tactic(auto)]
+
 ghost use Rattle.std.specs.Prelude.{◌≡◌, ◌+◌, ◌≤◌, leb, length};
 ghost use Rattle.text.specs.Digits.{Put};
 ghost use Rattle.arguments.specs.Arguments.{guarded, argument_text, joined_text};

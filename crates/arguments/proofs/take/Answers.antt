@@ -38,12 +38,12 @@ returns-then-not-fits c =
     let no-help : let a = c.args in asks_help a.a a.argument.now ≡ false = sym c.is_help.ensures ∙ c.if-is_help.false in
     let no-from : let a = c.args in asks_from a.a a.argument.now ≡ false = sym c.is_from.ensures ∙ c.if-is_from.false in
     let a = c.args in
-    let all = takes_none a.a a.i a.argument.now a.text.now not_named no-help no-from (sym c.fits2.ensures ∙ not-true _ (ap not c.if-not-fits.true)) in
+    let all = takes_none a.a a.i a.argument.now a.text.now not_named no-help no-from (sym c.fits.ensures ∙ not-true _ (ap not c.if-not-fits.true)) in
     record { value = all.0; text_after = all.1 }
 
 pub put_argument-size-requires : goal.put_argument-size-requires
 put_argument-size-requires c =
-    let it-fits : let a = c.args in fits_in a.a a.argument.now (length a.text.now) ≡ true = sym c.fits2.ensures ∙ not-false _ (ap not c.if-not-fits.false) in
+    let it-fits : let a = c.args in fits_in a.a a.argument.now (length a.text.now) ≡ true = sym c.fits.ensures ∙ not-false _ (ap not c.if-not-fits.false) in
     let a = c.args in
     omega (arith, leb-true (a.a.size + length a.argument.now + 2) (length a.text.now) it-fits)
 
@@ -52,7 +52,7 @@ returns c =
     let not_named : c.args.a.named ≡ false = c.if-a.false in
     let no-help : let a = c.args in asks_help a.a a.argument.now ≡ false = sym c.is_help.ensures ∙ c.if-is_help.false in
     let no-from : let a = c.args in asks_from a.a a.argument.now ≡ false = sym c.is_from.ensures ∙ c.if-is_from.false in
-    let it-fits : let a = c.args in fits_in a.a a.argument.now (length a.text.now) ≡ true = sym c.fits2.ensures ∙ not-false _ (ap not c.if-not-fits.false) in
+    let it-fits : let a = c.args in fits_in a.a a.argument.now (length a.text.now) ≡ true = sym c.fits.ensures ∙ not-false _ (ap not c.if-not-fits.false) in
     let a = c.args in
     let all = takes-word a.a a.i a.argument.now a.text.now not_named no-help no-from it-fits c.put_argument-size.ensures.put in
     record { value = all.0; text_after = all.1 }
