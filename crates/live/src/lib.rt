@@ -1,5 +1,7 @@
 // The live tasks of a board as one table of numbers: what the survey of a board makes, a run keeps, and every planner is lent. A row
 // of 64 numbers for each field; task i has the numbers at place i of each row. Beside it the columns of each task in words.
+#![tactic(auto)]
+
 ghost use Rattle.std.specs.Prelude.{◌≡◌, not, ◌&&◌, ◌||◌, [], ◌∷◌, ℕ, ◌≤◌, ◌<◌, eqb, length};
 ghost use Rattle.lists.specs.Lists.{never};
 ghost use Rattle.words.specs.Words.{bit, Least};
