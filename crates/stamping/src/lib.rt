@@ -1,4 +1,6 @@
 // Stamping: the phase of an instant, written in each record of a table that a viewer lends.
+#![tactic(auto)]
+
 ghost use Rattle.std.specs.Prelude.{◌≡◌};
 ghost use Rattle.tasks.specs.Tasks.{stamped_all};
 
