@@ -1,4 +1,6 @@
 // Whole summaries added up, piece by piece: the machine that `summary --add` runs.
+#![tactic(auto)]
+
 ghost use Rattle.std.specs.Prelude.{◌≡◌, cond, ◌&&◌, ◌+◌, ◌≤◌, ◌<◌, leb, eqb, length};
 ghost use Rattle.text.specs.Digits.{Put};
 ghost use Rattle.tokens.specs.Tokens.{same};

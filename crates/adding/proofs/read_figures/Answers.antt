@@ -1,0 +1,43 @@
+-- `adding::read_figures` meets its contract: one byte more each turn. Assumes nothing.
+use Prim.Native.Nat.{◌-◌, ◌<◌}
+use mathlib.Core.Path.{refl, sym, ap, ◌∙◌}
+use mathlib.Core.Logic.{⊎_elim}
+use native.Mathlib.Omega.{arith}
+use mathlib.Core.Bool.{◌&&◌}
+use lib.Dec.{ltb}
+use borrow.Author.Tests.{ltb-true}
+use Rattle.adding.specs.Machine.{figures_in}
+use Rattle.adding.proofs.Numbers.{both_r, read-stored, read-passed, read_all}
+use Rattle.adding.proofs.read_figures.Goals as goal
+
+pub loop-i-init : goal.loop-i-init
+unfolding figures_in
+loop-i-init c = record { within = omega arith; same = refl }
+
+pub offset_bounds-figures-n : goal.offset_bounds-figures-n
+offset_bounds-figures-n c =
+    let room : c.loop-i.n < 83 = ltb-true c.loop-i.n 83 (both_r c.ends_number.result _ c.if-ends_number-n.true) in
+    omega (arith, room)
+
+pub bounds-figures-n : goal.bounds-figures-n
+bounds-figures-n c =
+    let room : c.loop-i.n < 83 = ltb-true c.loop-i.n 83 (both_r c.ends_number.result _ c.if-ends_number-n.true) in
+    room
+
+pub overflow_add-n : goal.overflow_add-n
+overflow_add-n c =
+    let room : c.loop-i.n < 83 = ltb-true c.loop-i.n 83 (both_r c.ends_number.result _ c.if-ends_number-n.true) in
+    omega (arith, room)
+
+pub loop-i-preserved : goal.loop-i-preserved
+loop-i-preserved c =
+    let l = c.loop-i in
+    let text = c.args.text.now in
+    let ends = sym (ap (λ t. t && ltb l.n 83) c.ends_number.ensures) in
+    ⊎_elim
+    (λ w. rw (w.1, w.2) (read-stored text (omega arith) l.invariant (ends ∙ w.0.taken) c.read_byte-r.ensures))
+    (λ w. rw (w.1, w.2) (read-passed text (omega arith) l.invariant (ends ∙ w.0.left) c.read_byte-r.ensures))
+    c.if-ends_number-n.branch
+
+pub returns : goal.returns
+returns c = read_all c.args.text.now (omega arith) c.loop-i.invariant
