@@ -1,4 +1,6 @@
 // A line of text as an event: what the program `record` reads.
+#![tactic(auto)]
+
 ghost use Rattle.std.specs.Prelude.{◌≡◌, ◌≤◌, length, take, drop};
 ghost use Rattle.tokens.specs.Tokens.{words, first_word, other_words};
 ghost use Rattle.lines.specs.Lines.{less_return, planner_of, grid_line, board_line, clock_line, withdraw_line, submit_line, said_by, says};
