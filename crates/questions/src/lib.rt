@@ -1,4 +1,6 @@
 // What the program `ask` is asked: its arguments as one text, a space between two.
+#![tactic(auto)]
+
 ghost use Rattle.std.specs.Prelude.{◌≡◌, ◌≤◌, [], ◌∷◌, length, drop};
 ghost use Rattle.tokens.specs.Tokens.{words, nth};
 ghost use Rattle.questions.specs.declared.Question.TheVariants.{Wrong, Busy, Stamp};
