@@ -1,4 +1,6 @@
 // What `summary` is told by its arguments.
+#![tactic(auto)]
+
 ghost use Rattle.std.specs.Prelude.{◌≡◌, ◌≤◌, take};
 ghost use Rattle.batches.specs.Batches.{no_batch, spoilt, includes, name_of};
 
