@@ -1,5 +1,6 @@
 // The four planners over (W, now, live tasks): definitions (specs/), their meanings (proofs/), and what a planner answers.
 // The planners themselves are in the crates above: each is small enough to be proved again in seconds.
+#![tactic(auto)]
 
 // A place that was found: the column and the start.
 #[derive(Clone, Copy)]

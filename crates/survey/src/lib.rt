@@ -1,4 +1,6 @@
 // One pass over the 64 slots of a board: whether each by itself is sound, and the live tasks in a table, in slot order.
+#![tactic(auto)]
+
 ghost use Rattle.std.specs.Prelude.{◌≡◌, ◌&&◌, ◌||◌, ℕ, ◌<◌, eqb, length};
 ghost use Rattle.words.specs.Words.{bit};
 ghost use Rattle.tasks.specs.declared.Task.{Task};
