@@ -9,6 +9,7 @@ use borrow.Author.Tests.{ltb-true}
 use Rattle.adding.specs.Machine.{figures_in}
 use Rattle.adding.proofs.Numbers.{both_r, read-stored, read-passed, read_all}
 use Rattle.adding.proofs.read_figures.Goals as goal
+use Rattle.adding.proofs.read_figures.Goals.{then-ends_number-n, else-ends_number-n}
 
 pub loop-i-init : goal.loop-i-init
 unfolding figures_in
@@ -34,10 +35,10 @@ loop-i-preserved c =
     let l = c.loop-i in
     let text = c.args.text.now in
     let ends = sym (ap (λ t. t && ltb l.n 83) c.ends_number.ensures) in
-    ⊎_elim
-    (λ w. rw (w.1, w.2) (read-stored text (omega arith) l.invariant (ends ∙ w.0.taken) c.read_byte-r.ensures))
-    (λ w. rw (w.1, w.2) (read-passed text (omega arith) l.invariant (ends ∙ w.0.left) c.read_byte-r.ensures))
-    c.if-ends_number-n.branch
+    elim c.if-ends_number-n.branch [
+      | then-ends_number-n w ↦ rw (w.figures-is, w.n-is) (read-stored text (omega arith) l.invariant (ends ∙ w.if-ends_number-n.true) c.read_byte-r.ensures)
+      | else-ends_number-n w ↦ rw (w.figures-is, w.n-is) (read-passed text (omega arith) l.invariant (ends ∙ w.if-ends_number-n.false) c.read_byte-r.ensures)
+    ]
 
 pub returns : goal.returns
 returns c = read_all c.args.text.now (omega arith) c.loop-i.invariant
