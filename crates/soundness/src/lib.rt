@@ -1,4 +1,6 @@
 // Whether the slots make a sound board: what the survey found, and each pair of live tasks.
+#![tactic(auto)]
+
 ghost use Rattle.std.specs.Prelude.{◌≡◌, not, ℕ, ◌+◌, ◌-◌, ◌<◌, ◌≤◌, eqb, length};
 ghost use Rattle.lists.specs.Lists.{all?, pairwise?, range};
 ghost use Rattle.tasks.specs.declared.Task.{Task};
