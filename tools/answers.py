@@ -171,7 +171,18 @@ class Turn:
         return "".join(out)
 
     def plain(self, text):
-        return PATH.sub(lambda m: self.path(m.group("base"), [x for x in m.group("path").split(".") if x])[0], text)
+        def one(m):
+            said, kind = self.path(m.group("base"), [x for x in m.group("path").split(".") if x])
+            names = self.clauses.get(kind[1], []) if isinstance(kind, tuple) and kind[0] == "ensures" else self.f.pre if kind == "requires" else None
+            if names and len(names) > 1:
+                # all clauses at once: a lemma takes them as pairs
+                out = f"{said}.{names[-1]}"
+                for n in reversed(names[:-1]):
+                    out = f"({said}.{n}, {out})"
+                return out
+            return said
+
+        return PATH.sub(one, text)
 
 
 class Helpers:
@@ -346,7 +357,11 @@ def turn(path, f, module):
                 parts = parts[:-1] + inner
             if parts and len(parts) == len(fields):
                 body = k.group("pre") + "record {\n" + "".join(f"      {n} = {p.strip()};\n" for n, p in zip(fields, parts)) + "    }"
-            elif len(fields) > 1 and body.strip() != "search rules":
+            elif re.match(r"(.*\bin)?\s*(absurd|search) ", body, re.S) and not re.search(r" in\n(?!\s*(absurd|search) )[^\n]*$", body):
+                pass
+            elif len(fields) > 1 and rewritten(body, fields):
+                body = rewritten(body, fields)
+            elif len(fields) > 1:
                 cut = body.rfind(" in\n") + 4 if " in\n" in body else 0
                 ways = [".0"] + [".1" * k + ".0" for k in range(1, len(fields) - 1)] + [".1" * (len(fields) - 1)]
                 body = body[:cut] + f"\n    let all = {body[cut:].strip()} in\n    record {{ " + "; ".join(f"{n} = all{w}" for n, w in zip(fields, ways)) + " }"
@@ -355,6 +370,40 @@ def turn(path, f, module):
         unf = f"unfolding {' '.join(unf)}\n" if unf else ""
         answers.append(f"{m.group('c')}pub {new} : goal.{new}\n{unf}{new} c ={body}")
     return head, uses, invs_text, out, answers
+
+
+def rewritten(body, fields):
+    """`rw L (a, (b, c))` with the clauses' names in the tuple's place."""
+    cut = body.rfind(" in\n") + 4 if " in\n" in body else 0
+    last = body[cut:]
+    k = re.match(r"\s*rw ", last)
+    if not k:
+        return None
+    i = k.end()
+    if i < len(last) and last[i] == "(":
+        depth = 0
+        for j in range(i, len(last)):
+            depth += (last[j] == "(") - (last[j] == ")")
+            if depth == 0:
+                break
+    else:
+        j = last.find(" ", i)
+        if j < 0:
+            return None
+        j -= 1
+    rest = last[j + 1 :].strip()
+    if not (rest.startswith("(") and rest.endswith(")")):
+        return None
+    parts = split(rest[1:-1])
+    while parts and len(parts) < len(fields):
+        l = parts[-1].strip()
+        inner = split(l[1:-1]) if l.startswith("(") and l.endswith(")") else None
+        if not inner or len(inner) < 2:
+            return None
+        parts = parts[:-1] + inner
+    if not parts or len(parts) != len(fields):
+        return None
+    return body[:cut] + last[: j + 1] + " (record {\n" + "".join(f"      {n} = {p.strip()};\n" for n, p in zip(fields, parts)) + "    })"
 
 
 def split(t):

@@ -1,5 +1,7 @@
 // Which columns the live tasks hold during a stay of e ticks from an instant on, in four words; where w clear columns begin; how long
 // that lasts. Reference, Full and the openings stand on it: none ever steps through blocked ticks.
+#![tactic(auto)]
+
 ghost use Rattle.std.specs.Prelude.{◌≡◌, ℕ, ◌+◌, ◌<◌, ◌≤◌, min, slice_index};
 ghost use Rattle.live.specs.Live.{After, Falling, Lent, tasks_of};
 ghost use Rattle.words.specs.Words.{bit};
