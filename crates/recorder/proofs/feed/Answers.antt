@@ -102,7 +102,7 @@ loop-said-preserved c =
     let left : c.loop-said.at < length c.args.piece.now = some_left c.loop-said.invariant go in
     let most : c.loop-said.at + c.find.result ≤ length c.args.piece.now = let piece = c.args.piece.now in
     omega (arith, c.find.ensures.upper_bound, ap length (onward piece c.loop-said.at), length-drop c.loop-said.at piece, left) in
-    going_more c.loop-said.invariant go _ (ap (λ k. c.loop-said.at + k) c.find.ensures.value) most c.feed_part-p.ensures
+    going_more c.loop-said.invariant go _ (ap (λ k. c.loop-said.at + k) c.find.ensures.value) most (c.feed_part-p.ensures.value, (c.feed_part-p.ensures.held_after, (c.feed_part-p.ensures.out_after, c.feed_part-p.ensures.err_after)))
 
 pub shape_of-out-then-r : goal.shape_of-out-then-r
 shape_of-out-then-r c = same-room c.loop-said.invariant

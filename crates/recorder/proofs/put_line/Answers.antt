@@ -17,8 +17,11 @@ returns-in-Nothing c =
     let by_read : (x : Line) → c.read-said.result ≡ x → let a = c.args in
     let text = a.text.now in
     line_made a.line a.records text ≡ made_of a.line a.records (part c.mark_end-from.result (length text) text) x = λ x q. let a = c.args in made_by a.line a.records a.text.now _ x c.mark_end-from.ensures.0 c.read-said.ensures q in
-    let all = rw (by_read Nothing c.in-Nothing.is) (refl, (refl, refl)) in
-    record { value = all.0; out_after = all.1.0; err_after = all.1.1 }
+    rw (by_read Nothing c.in-Nothing.is) (record {
+      value = refl;
+      out_after = refl;
+      err_after = refl;
+    })
 
 pub returns-in-Says : goal.returns-in-Says
 unfolding made_of
@@ -28,8 +31,11 @@ returns-in-Says c =
     line_made a.line a.records text ≡ made_of a.line a.records (part c.mark_end-from.result (length text) text) x = λ x q. let a = c.args in made_by a.line a.records a.text.now _ x c.mark_end-from.ensures.0 c.read-said.ensures q in
     let p = c.put_record.ensures in
     let step : ℕ → Step = λ n. record { used = n; said = 0; records = 1; more = true } in
-    let all = rw (by_read (Says _) c.in-Says.is) (ap step p.value, (p.out_after, refl)) in
-    record { value = all.0; out_after = all.1.0; err_after = all.1.1 }
+    rw (by_read (Says _) c.in-Says.is) (record {
+      value = ap step p.value;
+      out_after = p.out_after;
+      err_after = refl;
+    })
 
 pub returns-in-Wrong : goal.returns-in-Wrong
 unfolding made_of
@@ -39,5 +45,8 @@ returns-in-Wrong c =
     line_made a.line a.records text ≡ made_of a.line a.records (part c.mark_end-from.result (length text) text) x = λ x q. let a = c.args in made_by a.line a.records a.text.now _ x c.mark_end-from.ensures.0 c.read-said.ensures q in
     let p = c.complain.ensures in
     let step : ℕ → Step = λ n. record { used = 1; said = n; records = 0; more = false } in
-    let all = rw (by_read (Wrong _ _) c.in-Wrong.is) (ap step p.value, (refl, p.err_after)) in
-    record { value = all.0; out_after = all.1.0; err_after = all.1.1 }
+    rw (by_read (Wrong _ _) c.in-Wrong.is) (record {
+      value = ap step p.value;
+      out_after = refl;
+      err_after = p.err_after;
+    })

@@ -5,8 +5,7 @@ use Rattle.recorder.proofs.put_record.Goals as goal
 pub returns-in-NoRoom : goal.returns-in-NoRoom
 returns-in-NoRoom c =
     let a = c.args in
-    let all = absurd (put-room a.event a.out.now a.used c.requires c.write-w.ensures.value c.in-NoRoom.is) in
-    record { value = all.0; out_after = all.1 }
+    absurd (put-room a.event a.out.now a.used c.requires c.write-w.ensures.value c.in-NoRoom.is)
 
 pub returns-in-Length : goal.returns-in-Length
 returns-in-Length c =
