@@ -273,7 +273,11 @@ def items(text):
     return blocks
 
 
+Names = []
+
+
 def turn(path, f, module):
+    del Names[:]
     text = open(path, encoding="utf-8").read()
     if "tie.close" not in text:
         return None
@@ -323,6 +327,18 @@ def turn(path, f, module):
         body = PATH.sub(lambda k: sub.get(k.group("base"), k.group("base")) + k.group("path"), m.group("b"))
         invs_text.append(f"{m.group('c')}abbrev pub {kind}-{new} : goal.{kind}-{new}\n{kind}-{new} l ={body}")
     h = Helpers(helpers)
+    said = "\n".join(invs_text)
+    shared, own = [], []
+    for b in odd:
+        k = re.search(rf"^(?:abbrev |unfoldable )?(?:pub )?(?:record |data )?({ID})(?=[ :])", re.sub(r"^(--[^\n]*\n)*", "", b))
+        if k and re.search(rf"(?<![\w'.-]){re.escape(k.group(1))}(?![\w'-])", said + "\n".join(shared)):
+            b = re.sub(rf"(?m)^(abbrev |unfoldable |)(?:pub )?(record |data |)({re.escape(k.group(1))} :|{re.escape(k.group(1))} )", lambda m: f"{m.group(1)}pub {m.group(2)}{m.group(3)}" if m.group(3).endswith(":") or m.group(2) else m.group(0), b, count=1)
+            shared.append(b)
+            Names.append(k.group(1))
+        else:
+            own.append(b)
+    invs_text = shared + invs_text
+    odd = own
     out = odd + ["-- left, by hand:\n-- " + b.replace("\n", "\n-- ") for b in h.bad]
     if h.bad:
         print(f"look: {path}: {len(h.bad)} helpers by hand")
@@ -479,7 +495,7 @@ def main():
         if answers or (helpers and answers):
             body = "\n\n".join(helpers + answers)
             with open(os.path.join(folder, "Answers.antt"), "w", encoding="utf-8") as o:
-                o.write(lead + "\n".join(used(uses, body) + [f"use {base}.Goals as goal"]) + "\n\n" + body + "\n")
+                o.write(lead + "\n".join(used(uses, body) + ([f"use {base}.Invariants.{{{', '.join(Names)}}}"] if inv and any(re.search(rf"(?<![\w'.-]){re.escape(n)}(?![\w'-])", body) for n in Names) else []) + [f"use {base}.Goals as goal"]) + "\n\n" + body + "\n")
         os.remove(path)
         if not os.listdir(folder):
             os.rmdir(folder)

@@ -1,4 +1,6 @@
 // Where the list of openings looks next, and a run of openings written.
+#![tactic(auto)]
+
 ghost use Rattle.std.specs.Prelude.{◌≡◌, ℕ, ◌+◌, ◌*◌, ◌≤◌, ◌<◌, max, min, length};
 ghost use Rattle.std.proofs.lemmas.List.Edits.{sets};
 ghost use Rattle.planners.specs.Lent.{Rounded, run_at};
