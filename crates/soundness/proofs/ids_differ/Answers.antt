@@ -1,7 +1,7 @@
 -- `soundness::ids_differ` meets its contract: what is left of the pairs decides. Assumes nothing.
 use Prim.Native.Nat.{ℕ, ◌-◌}
 use mathlib.Core.Path.{◌≡◌, refl, sym, ◌∙◌}
-use mathlib.Core.Bool.{Bool, not}
+use mathlib.Core.Bool.{not}
 use mathlib.Core.List.{List}
 use native.Mathlib.Omega.{arith}
 use lib.Dec.{eqb}
@@ -9,10 +9,6 @@ use Rattle.lists.specs.Lists.{pairwise?, range}
 use Rattle.live.specs.Live.{id_at}
 use Rattle.soundness.proofs.Pairs.{pairs-on, pairs-off, pairs_end}
 use Rattle.soundness.proofs.ids_differ.Goals as goal
-
--- no two from i on have one id
-abbrev apart? : List ℕ → ℕ → ℕ → Bool
-apart? live i n = pairwise? (λ a b. not (eqb (id_at live a) (id_at live b))) (range i (n - i))
 
 whole : (live : List ℕ) (n : ℕ) → apart? live 0 n ≡ pairwise? (λ a b. not (eqb (id_at live a) (id_at live b))) (range 0 n)
 whole live n = let z : n - 0 ≡ n = omega arith in rw z
