@@ -1,4 +1,6 @@
 // Stuffing (Algorithm 2 of the source) over the live tasks that are lent, by the plain method: column by column.
+#![tactic(auto)]
+
 ghost use Rattle.std.specs.Prelude.{◌≡◌, ◌+◌, ◌<◌, ◌≤◌, length, replicate, if◌then◌else◌};
 ghost use Rattle.lists.specs.Lists.{some?, never};
 ghost use Rattle.planners.specs.Planners.{stuffing};
