@@ -15,7 +15,7 @@ import subprocess
 import sys
 import tempfile
 
-ID = r"[^\W\d][\w'₀-₉]*(?:-[\w'₀-₉]+)*"
+ID = r"[^\W\d][\w'?₀-₉]*(?:-[\w'?₀-₉]+)*"
 PATH = re.compile(rf"(?<![\w'.₀-₉-])(?P<base>{ID})(?P<path>(?:\.(?:{ID}|\d+))*)")
 
 
@@ -332,7 +332,7 @@ def turn(path, f, module):
     for b in odd:
         k = re.search(rf"^(?:abbrev |unfoldable )?(?:pub )?(?:record |data )?({ID})(?=[ :])", re.sub(r"^(--[^\n]*\n)*", "", b))
         if k and re.search(rf"(?<![\w'.-]){re.escape(k.group(1))}(?![\w'-])", said + "\n".join(shared)):
-            b = re.sub(rf"(?m)^(abbrev |unfoldable |)(?:pub )?(record |data |)({re.escape(k.group(1))} :|{re.escape(k.group(1))} )", lambda m: f"{m.group(1)}pub {m.group(2)}{m.group(3)}" if m.group(3).endswith(":") or m.group(2) else m.group(0), b, count=1)
+            b = re.sub(rf"(?m)^(abbrev |unfoldable |)(?:pub )?(record |data |)({re.escape(k.group(1))} :|{re.escape(k.group(1))} )", lambda m: f"{m.group(1) or ('' if m.group(2) else 'unfoldable ')}pub {m.group(2)}{m.group(3)}" if m.group(3).endswith(":") or m.group(2) else m.group(0), b, count=1)
             shared.append(b)
             Names.append(k.group(1))
         else:
@@ -384,7 +384,8 @@ def turn(path, f, module):
         if lets:
             body = lets + ("\n    " + body.strip())
         unf = f"unfolding {' '.join(unf)}\n" if unf else ""
-        answers.append(f"{m.group('c')}pub {new} : goal.{new}\n{unf}{new} c ={body}")
+        more = "".join(" " + a for a in args[1:] if not a.startswith("κ"))
+        answers.append(f"{m.group('c')}pub {new} : goal.{new}\n{unf}{new} c{more} ={body}")
     return head, uses, invs_text, out, answers
 
 
