@@ -5,7 +5,7 @@ use Rattle.live.specs.Live.{from_at}
 use Rattle.held.proofs.next_change.Given as goal
 
 -- none of the first i tasks comes into the stay before r
-pub Comes : (live : List ℕ) (i t e r : ℕ) → Type 0
+unfoldable pub Comes : (live : List ℕ) (i t e r : ℕ) → Type 0
 Comes live i t e r = (j : ℕ) → j < i → t + e ≤ from_at live j → r + e ≤ from_at live j + 1
 
 abbrev pub invariant-loop-i : goal.invariant-loop-i
