@@ -20,7 +20,7 @@ PATH = re.compile(rf"(?<![\w'.₀-₉-])(?P<base>{ID})(?P<path>(?:\.(?:{ID}|\d+)
 
 
 def norm(n):
-    n = n.replace("_", "-")
+    n = n.replace("_", "-").lower()
     return re.sub(r"^overflow-", "", n)
 
 
@@ -214,7 +214,7 @@ class Helpers:
                 self.bad.append(b)
                 continue
             v = k.groupdict().get("v") or args[0]
-            if re.fullmatch(rf"\s*{ID}(\.before)*\s*", m.group("b")) or (re.match(r"tie\.", k.group("r")) and "\n" not in m.group("b").strip()):
+            if re.fullmatch(rf"\s*{ID}(\.before)*\s*", m.group("b")) or ((re.match(r"tie\.", k.group("r")) or k.group("r").strip() in self.types) and "\n" not in m.group("b").strip()):
                 self.back.append((m.group("n"), args[0], m.group("b").strip()))
             else:
                 body = m.group("b").strip()
