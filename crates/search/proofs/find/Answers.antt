@@ -1,7 +1,6 @@
 -- `search::find` meets its contract: what is left from t on, openings or times visited, gives the answer. Assumes nothing.
 use Prim.Native.Nat.{◌-◌}
 use mathlib.Core.Path.{◌≡◌}
-use mathlib.Core.Logic.{⊎_elim}
 use native.Mathlib.Omega.{arith}
 use lib.ListN.{length}
 use Rattle.live.specs.Live.{tasks_of, NextFinish}
@@ -10,6 +9,7 @@ use Rattle.search.proofs.Fit.{Fit, fit-eroded}
 use Rattle.search.proofs.Walk.{Blocked, walk-begin, walk_first, walk-edge, walk-over, walk-on, blocked-none, blocked-edges}
 use borrow.Author.Rules.{rules}
 use Rattle.search.proofs.find.Goals as goal
+use Rattle.search.proofs.find.Goals.{then-first-lt257, else-first-lt257}
 
 pub walk-init : goal.walk-init
 walk-init c =
@@ -32,12 +32,12 @@ walk-preserved c =
     let k = c.walk.invariant.0 in
     let f = c.walk.invariant.1 in
     let h = c.held_words-stay.ensures a.count c.requires.0 f in
-    ⊎_elim
-    (λ w.
-    blocked-edges _ _ _ c.requires.0.device c.requires.1 k h fits w.1.left w.2.result (w.2.ensures a.count c.requires.0 f)
-    w.3.ensures (omega (arith, w.4.left)))
-    (λ w. blocked-none _ _ _ c.requires.0.device c.requires.1 k h fits c.next_set-first.ensures (omega (arith, w.left)))
-    c.if-first-lt257.branch in
+    elim c.if-first-lt257.branch [
+      | then-first-lt257 w ↦
+          blocked-edges _ _ _ c.requires.0.device c.requires.1 k h fits w.if-whole.false w.held_words.result (w.held_words.ensures a.count c.requires.0 f)
+          w.narrowest-column.ensures (omega (arith, w.if-column-gt0.false))
+      | else-first-lt257 w ↦ blocked-none _ _ _ c.requires.0.device c.requires.1 k h fits c.next_set-first.ensures (omega (arith, w.if-first-lt257.false))
+    ] in
     let next : let a = c.args in
     NextFinish a.live.now a.count c.walk.t c.next_finish-next.result = c.next_finish-next.ensures c.args.count c.walk.t c.requires.0.falling c.walk.invariant.1
     (omega (arith, c.requires.1.until, c.walk.invariant.0.in-time)) in
@@ -76,12 +76,12 @@ returns-then-last-next c =
     let k = c.walk.invariant.0 in
     let f = c.walk.invariant.1 in
     let h = c.held_words-stay.ensures a.count c.requires.0 f in
-    ⊎_elim
-    (λ w.
-    blocked-edges _ _ _ c.requires.0.device c.requires.1 k h fits w.1.left w.2.result (w.2.ensures a.count c.requires.0 f)
-    w.3.ensures (omega (arith, w.4.left)))
-    (λ w. blocked-none _ _ _ c.requires.0.device c.requires.1 k h fits c.next_set-first.ensures (omega (arith, w.left)))
-    c.if-first-lt257.branch in
+    elim c.if-first-lt257.branch [
+      | then-first-lt257 w ↦
+          blocked-edges _ _ _ c.requires.0.device c.requires.1 k h fits w.if-whole.false w.held_words.result (w.held_words.ensures a.count c.requires.0 f)
+          w.narrowest-column.ensures (omega (arith, w.if-column-gt0.false))
+      | else-first-lt257 w ↦ blocked-none _ _ _ c.requires.0.device c.requires.1 k h fits c.next_set-first.ensures (omega (arith, w.if-first-lt257.false))
+    ] in
     let next : let a = c.args in
     NextFinish a.live.now a.count c.walk.t c.next_finish-next.result = c.next_finish-next.ensures c.args.count c.walk.t c.requires.0.falling c.walk.invariant.1
     (omega (arith, c.requires.1.until, c.walk.invariant.0.in-time)) in
