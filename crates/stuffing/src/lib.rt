@@ -114,12 +114,10 @@ fn meets_any(
     let end = t + e;
     let mut i: usize = 0;
     while i < n {
-        if live[live::FROM + i] < end {
-            if live[live::LEFT + i] < to {
-                if c < live[live::PAST + i] {
-                    return true;
-                }
-            }
+        if ((c < live[live::PAST + i]) & (live[live::LEFT + i] < to))
+            & (live[live::FROM + i] < end)
+        {
+            return true;
         }
         i += 1;
     }

@@ -30,104 +30,70 @@ next_key-key-requires c = (c.list_fits-m.ensures.few, c.tries.invariant.most)
 
 pub meets_any-requires : goal.meets_any-requires
 meets_any-requires c =
-    let visit_of : Visit = c in
-    let v = visit_of in
-    let s = v.before.before.before in record {
-      on_device = (s.pre.0, s.pre.1, v.visits.inv.2);
-      le_w = (omega arith, omega arith, omega (arith, s.pre.0.wide, left-small c.next_key-key.result c.left_of-column.ensures), omega (arith, v.visits.inv.1));
+    record {
+      on_device = (c.requires.0, c.requires.1, c.visits.invariant.2);
+      le_w = (omega arith, omega arith, omega (arith, c.requires.0.wide, left-small c.next_key-key.result c.left_of-column.ensures), omega (arith, c.visits.invariant.1));
     }
 
 pub tries-smaller : goal.tries-smaller
 tries-smaller c =
-    let visit_of : Visit = c in
-    let next-fit : let v = visit_of in let a = v.before.before.before.args in
-    NextFit (free (tasks_of a.count a.live.now) v.visits.t) a.q.width a.q.w c.tries.after c.next_key-key.result = let v = visit_of in
-    let s = v.before.before.before in
-    fit_same s.pre.0 s.pre.1 s.pre.2 v.visits.inv.2 c.mark_held.ensures
+    let next-fit : let a = c.args in
+    NextFit (free (tasks_of a.count a.live.now) c.visits.t) a.q.width a.q.w c.tries.after c.next_key-key.result = fit_same c.requires.0 c.requires.1 c.requires.2 c.visits.invariant.2 c.mark_held.ensures
     (next-listed c.list_fits-m.ensures c.next_key-key.ensures) in
-    let v = visit_of in
-    let s = v.before.before.before in
     let n = next-fit in
-    omega (arith, tries-past _ s.args.q.clock _ _ _ s.args.q.d s.pre.0.wide c.tries.invariant n c.if-key.false)
+    omega (arith, tries-past _ c.args.q.clock _ _ _ c.args.q.d c.requires.0.wide c.tries.invariant n c.if-key.false)
 
 pub tries-preserved : goal.tries-preserved
 tries-preserved c =
-    let visit_of : Visit = c in
-    let next-fit : let v = visit_of in let a = v.before.before.before.args in
-    NextFit (free (tasks_of a.count a.live.now) v.visits.t) a.q.width a.q.w c.tries.after c.next_key-key.result = let v = visit_of in
-    let s = v.before.before.before in
-    fit_same s.pre.0 s.pre.1 s.pre.2 v.visits.inv.2 c.mark_held.ensures
+    let next-fit : let a = c.args in
+    NextFit (free (tasks_of a.count a.live.now) c.visits.t) a.q.width a.q.w c.tries.after c.next_key-key.result = fit_same c.requires.0 c.requires.1 c.requires.2 c.visits.invariant.2 c.mark_held.ensures
     (next-listed c.list_fits-m.ensures c.next_key-key.ensures) in
-    let v = visit_of in
-    let s = v.before.before.before in
     let n = next-fit in
-    tries-on _ s.args.q.clock _ _ _ s.args.q.d s.pre.0.wide c.tries.invariant n c.if-key.false
-    c.left_of-column.ensures (sym c.Meets-any.ensures ∙ c.if-meets_any.true)
+    tries-on _ c.args.q.clock _ _ _ c.args.q.d c.requires.0.wide c.tries.invariant n c.if-key.false
+    c.left_of-column.ensures (sym c.meets_any.ensures ∙ c.if-meets_any.true)
 
 pub next_finish-next-requires : goal.next_finish-next-requires
 next_finish-next-requires c =
-    let visit_of : Visit = c in
-    let v = visit_of in
-    omega (arith, v.before.before.before.pre.0.few, v.visits.inv.2.few)
+    omega (arith, c.requires.0.few, c.visits.invariant.2.few)
 
 pub after-n-requires-in-visits : goal.after-n-requires-in-visits
 after-n-requires-in-visits c =
-    let visit_of : Visit = c in
-    let v = visit_of in
-    omega (arith, v.before.before.before.pre.0.few, v.visits.inv.2.few)
+    omega (arith, c.requires.0.few, c.visits.invariant.2.few)
 
 pub visits-smaller : goal.visits-smaller
 visits-smaller c =
-    let visit_of : Visit = c in
-    let v = visit_of in
-    let s = v.before.before.before in
-    omega (arith, (c.next_finish-next.ensures _ _ s.pre.1 v.visits.inv.2 (omega arith)).after)
+    omega (arith, (c.next_finish-next.ensures _ _ c.requires.1 c.visits.invariant.2 (omega arith)).after)
 
 pub visits-preserved : goal.visits-preserved
 visits-preserved c =
-    let visit_of : Visit = c in
-    let next-fit : let v = visit_of in let a = v.before.before.before.args in
-    NextFit (free (tasks_of a.count a.live.now) v.visits.t) a.q.width a.q.w c.tries.after c.next_key-key.result = let v = visit_of in
-    let s = v.before.before.before in
-    fit_same s.pre.0 s.pre.1 s.pre.2 v.visits.inv.2 c.mark_held.ensures
+    let next-fit : let a = c.args in
+    NextFit (free (tasks_of a.count a.live.now) c.visits.t) a.q.width a.q.w c.tries.after c.next_key-key.result = fit_same c.requires.0 c.requires.1 c.requires.2 c.visits.invariant.2 c.mark_held.ensures
     (next-listed c.list_fits-m.ensures c.next_key-key.ensures) in
-    let v = visit_of in
-    let s = v.before.before.before in
     let n = next-fit in
-    let x = c.next_finish-next.ensures _ _ s.pre.1 v.visits.inv.2 (omega arith) in
-    let none_here = tries-none _ _ _ _ _ _ s.pre.0.wide c.tries.invariant n c.if-key.true in (
-      stuffs-on _ _ _ _ s.pre.0 _ _ _ v.visits.inv.0 none_here x (omega arith) (omega arith) (omega arith),
+    let x = c.next_finish-next.ensures _ _ c.requires.1 c.visits.invariant.2 (omega arith) in
+    let none_here = tries-none _ _ _ _ _ _ c.requires.0.wide c.tries.invariant n c.if-key.true in (
+      stuffs-on _ _ _ _ c.requires.0 _ _ _ c.visits.invariant.0 none_here x (omega arith) (omega arith) (omega arith),
       omega arith,
-      after_on v.visits.inv.2 (omega (arith, x.after)) c.after-n-in-visits.ensures,
+      after_on c.visits.invariant.2 (omega (arith, x.after)) c.after-n-in-visits.ensures,
       c.list_fits-m.ensures.size,
     )
 
 pub returns-else-meets_any : goal.returns-else-meets_any
 returns-else-meets_any c =
-    let visit_of : Visit = c in
-    let next-fit : let v = visit_of in let a = v.before.before.before.args in
-    NextFit (free (tasks_of a.count a.live.now) v.visits.t) a.q.width a.q.w c.tries.after c.next_key-key.result = let v = visit_of in
-    let s = v.before.before.before in
-    fit_same s.pre.0 s.pre.1 s.pre.2 v.visits.inv.2 c.mark_held.ensures
+    let next-fit : let a = c.args in
+    NextFit (free (tasks_of a.count a.live.now) c.visits.t) a.q.width a.q.w c.tries.after c.next_key-key.result = fit_same c.requires.0 c.requires.1 c.requires.2 c.visits.invariant.2 c.mark_held.ensures
     (next-listed c.list_fits-m.ensures c.next_key-key.ensures) in
-    let v = visit_of in
-    let s = v.before.before.before in
     let n = next-fit in
-    stuffs-hit _ _ _ _ s.pre.0 _ _ _ v.visits.inv.0
-    (tries-hit _ _ _ _ _ _ s.pre.0.wide c.tries.invariant n c.if-key.false
-    c.left_of-column.ensures (sym c.Meets-any.ensures ∙ c.if-meets_any.false))
+    stuffs-hit _ _ _ _ c.requires.0 _ _ _ c.visits.invariant.0
+    (tries-hit _ _ _ _ _ _ c.requires.0.wide c.tries.invariant n c.if-key.false
+    c.left_of-column.ensures (sym c.meets_any.ensures ∙ c.if-meets_any.false))
 
 pub returns-then-last-next : goal.returns-then-last-next
 returns-then-last-next c =
-    let visit_of : Visit = c in
-    let next-fit : let v = visit_of in let a = v.before.before.before.args in
-    NextFit (free (tasks_of a.count a.live.now) v.visits.t) a.q.width a.q.w c.tries.after c.next_key-key.result = let v = visit_of in
-    let s = v.before.before.before in
-    fit_same s.pre.0 s.pre.1 s.pre.2 v.visits.inv.2 c.mark_held.ensures
+    let next-fit : let a = c.args in
+    NextFit (free (tasks_of a.count a.live.now) c.visits.t) a.q.width a.q.w c.tries.after c.next_key-key.result = fit_same c.requires.0 c.requires.1 c.requires.2 c.visits.invariant.2 c.mark_held.ensures
     (next-listed c.list_fits-m.ensures c.next_key-key.ensures) in
-    let v = visit_of in
-    let s = v.before.before.before in
     let n = next-fit in
-    let x = c.next_finish-next.ensures _ _ s.pre.1 v.visits.inv.2 (omega arith) in
-    let none_here = tries-none _ _ _ _ _ _ s.pre.0.wide c.tries.invariant n c.if-key.true in
-    stuffs-none _ _ _ _ s.pre.0 _ _ _ v.visits.inv.0 none_here x (omega arith) (omega arith)
+    let x = c.next_finish-next.ensures _ _ c.requires.1 c.visits.invariant.2 (omega arith) in
+    let none_here = tries-none _ _ _ _ _ _ c.requires.0.wide c.tries.invariant n c.if-key.true in
+    stuffs-none _ _ _ _ c.requires.0 _ _ _ c.visits.invariant.0 none_here x (omega arith) (omega arith)

@@ -1,5 +1,5 @@
 -- `stuffing::meets_any` meets its contract: what is left of the tasks decides. Assumes nothing.
-use Rattle.std.proofs.Common.{◌-◌, inl, inr, ⊎_elim, arith}
+use Rattle.std.proofs.Common.{◌-◌, arith}
 use Rattle.stuffing.proofs.Steps.{meets-start, meets-hit, meets_on, meets-end}
 use Rattle.stuffing.proofs.meets_any.Goals as goal
 
@@ -9,13 +9,12 @@ loop-i-init c = let p = c.requires.on_device in meets-start _ _ _ _ _ p.0 p.2 (o
 pub returns-then-c-live : goal.returns-then-c-live
 returns-then-c-live c =
     let p = c.requires.on_device in
-    meets-hit _ _ _ _ _ p.0 p.2 (omega arith) (omega arith) p.1 c.loop-i.invariant (omega arith) c.if-live-i.true c.if-live-i-2.true c.if-c-live.true
+    meets-hit _ _ _ _ _ p.0 p.2 (omega arith) (omega arith) p.1 c.loop-i.invariant (omega arith) c.if-c-live.true
 
 pub loop-i-preserved : goal.loop-i-preserved
 loop-i-preserved c =
     let p = c.requires.on_device in
-    meets_on _ _ _ _ _ p.0 p.2 (omega arith) (omega arith) p.1 c.loop-i.invariant (omega arith)
-    (⊎_elim (λ v. inr (inr v.4.left)) (⊎_elim (λ v. inr (inl v.2.left)) (λ v. inl v.left)) c.if-live-i.branch)
+    meets_on _ _ _ _ _ p.0 p.2 (omega arith) (omega arith) p.1 c.loop-i.invariant (omega arith) c.if-c-live.false
 
 pub returns : goal.returns
 returns c = meets-end _ _ _ _ _ c.loop-i.invariant (omega arith)
