@@ -9,7 +9,7 @@ use Rattle.search.proofs.Fit.{Fit, fit-eroded}
 use Rattle.search.proofs.Walk.{Blocked, walk-begin, walk_first, walk-edge, walk-over, walk-on, blocked-none, blocked-edges}
 use borrow.Author.Rules.{rules}
 use Rattle.search.proofs.find.Goals as goal
-use Rattle.search.proofs.find.Goals.{then-first-lt257, else-first-lt257}
+use Rattle.search.proofs.find.Goals.{then-first-lt257+else-whole+else-column-gt0, else-first-lt257}
 
 pub walk-init : goal.walk-init
 walk-init c =
@@ -33,7 +33,7 @@ walk-preserved c =
     let f = c.walk.invariant.1 in
     let h = c.held_words-stay.ensures a.count c.requires.0 f in
     elim c.if-first-lt257.branch [
-      | then-first-lt257 w ↦
+      | then-first-lt257+else-whole+else-column-gt0 w ↦
           blocked-edges _ _ _ c.requires.0.device c.requires.1 k h fits w.if-whole.false w.held_words.result (w.held_words.ensures a.count c.requires.0 f)
           w.narrowest-column.ensures (omega (arith, w.if-column-gt0.false))
       | else-first-lt257 w ↦ blocked-none _ _ _ c.requires.0.device c.requires.1 k h fits c.next_set-first.ensures (omega (arith, w.if-first-lt257.false))
@@ -77,7 +77,7 @@ returns-then-last-next c =
     let f = c.walk.invariant.1 in
     let h = c.held_words-stay.ensures a.count c.requires.0 f in
     elim c.if-first-lt257.branch [
-      | then-first-lt257 w ↦
+      | then-first-lt257+else-whole+else-column-gt0 w ↦
           blocked-edges _ _ _ c.requires.0.device c.requires.1 k h fits w.if-whole.false w.held_words.result (w.held_words.ensures a.count c.requires.0 f)
           w.narrowest-column.ensures (omega (arith, w.if-column-gt0.false))
       | else-first-lt257 w ↦ blocked-none _ _ _ c.requires.0.device c.requires.1 k h fits c.next_set-first.ensures (omega (arith, w.if-first-lt257.false))
