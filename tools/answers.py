@@ -134,7 +134,7 @@ class Turn:
                 if kind and len(self.clauses.get(s, [])) == 1 and not (fields and fields[0] == self.clauses[s][0]):
                     out.append(self.clauses[s][0])
                     kind = None
-                if s.startswith("if-not-") and not any(k.endswith("-" + s[7:]) for k in self.callees) and x in ("true", "false") and not fields:
+                if s.startswith("if-not-") and not any(k.endswith("-" + s[7:]) for k in self.callees) and not re.search(r"!" + re.escape(s[7:]) + r"\.", SOURCE) and x in ("true", "false") and not fields:
                     return "(ap not " + ".".join(out) + ")", None
             elif isinstance(kind, tuple) and kind[0] == "ensures":
                 names = self.clauses.get(kind[1])
@@ -463,9 +463,15 @@ def used(uses, text):
     return out
 
 
+SOURCE = ""
+
+
 def main():
+    global SOURCE
     crate = sys.argv[1]
     where = os.path.join("crates", crate)
+    for p in os.listdir(os.path.join(where, "src")):
+        SOURCE += open(os.path.join(where, "src", p), encoding="utf-8").read()
     with tempfile.TemporaryDirectory() as d:
         r = subprocess.run(["rt", "check", "--generated", d, "--old-names"], cwd=where, capture_output=True, text=True)
         try:
