@@ -11,11 +11,11 @@ use Rattle.steps.proofs.clock.Goals as goal
 pub returns-then-not-d : goal.returns-then-not-d
 returns-then-not-d c = λ ks k.
     let a = c.args in
-    rw c.bare.ensures (step_same a.d ks k _ 1 (unsound-clock a.d ks k (not-true a.d.sound (ap not c.if-not-d.true)) a.instant))
+    rw c.bare.ensures (step_same a.d ks k _ 1 (unsound-clock a.d ks k (not-true a.d.sound c.if-not-d.true) a.instant))
 
 pub returns-then-number-gt0 : goal.returns-then-number-gt0
 returns-then-number-gt0 c =
-    let sound : c.args.d.sound ≡ true = not-false c.args.d.sound (ap not c.if-not-d.false) in
+    let sound : c.args.d.sound ≡ true = not-false c.args.d.sound c.if-not-d.false in
     λ ks k.
     let a = c.args in
     rw c.bare-then-number-gt0.ensures
@@ -23,18 +23,18 @@ returns-then-number-gt0 c =
 
 pub after-count-requires : goal.after-count-requires
 after-count-requires c =
-    let sound : c.args.d.sound ≡ true = not-false c.args.d.sound (ap not c.if-not-d.false) in
+    let sound : c.args.d.sound ≡ true = not-false c.args.d.sound c.if-not-d.false in
     (c.requires.keeps.kept sound).stands.few
 
 pub without_slots-requires : goal.without_slots-requires
 without_slots-requires c =
-    let sound : c.args.d.sound ≡ true = not-false c.args.d.sound (ap not c.if-not-d.false) in
+    let sound : c.args.d.sound ≡ true = not-false c.args.d.sound c.if-not-d.false in
     let t = (c.requires.keeps.kept sound).stands in
     (c.after-count.ensures.few, t.few, λ i h. (t.each i h).inside)
 
 pub returns : goal.returns
 returns c =
-    let sound : c.args.d.sound ≡ true = not-false c.args.d.sound (ap not c.if-not-d.false) in
+    let sound : c.args.d.sound ≡ true = not-false c.args.d.sound c.if-not-d.false in
     λ ks k.
     let a = c.args in
     let u = sound in

@@ -17,18 +17,18 @@ use Rattle.steps.proofs.submit.Goals as goal
 pub returns-then-not-d : goal.returns-then-not-d
 returns-then-not-d c = λ ks k.
     let a = c.args in
-    rw c.bare.ensures (step_same a.d ks k _ 1 (unsound-submit a.d ks k (not-true a.d.sound (ap not c.if-not-d.true)) a.planner a.a))
+    rw c.bare.ensures (step_same a.d ks k _ 1 (unsound-submit a.d ks k (not-true a.d.sound c.if-not-d.true) a.planner a.a))
 
 pub decide-answer-requires : goal.decide-answer-requires
 decide-answer-requires c =
-    let sound : c.args.d.sound ≡ true = not-false c.args.d.sound (ap not c.if-not-d.false) in
+    let sound : c.args.d.sound ≡ true = not-false c.args.d.sound c.if-not-d.false in
     let k = c.requires.keeps in
     let u = sound in
     record { slots = c.requires.tasks; kept = k.kept u; lowest = free-lowest k.slots (k.used u) c.lowest_free-free.ensures; masked = λ x y. k.masked u }
 
 pub insert-requires : goal.insert-requires
 insert-requires c =
-    let sound : c.args.d.sound ≡ true = not-false c.args.d.sound (ap not c.if-not-d.false) in
+    let sound : c.args.d.sound ≡ true = not-false c.args.d.sound c.if-not-d.false in
     let ready : (c.args.d.count < 64) × (c.lowest_free-free.result < 64) × (c.booked-k.result.start + c.booked-k.result.e ≤ 4294967295) = let a = c.args in
     let k = c.requires.keeps in
     let u = sound in
@@ -44,7 +44,7 @@ insert-requires c =
 
 pub overflow_add-result : goal.overflow_add-result
 overflow_add-result c =
-    let sound : c.args.d.sound ≡ true = not-false c.args.d.sound (ap not c.if-not-d.false) in
+    let sound : c.args.d.sound ≡ true = not-false c.args.d.sound c.if-not-d.false in
     let ready : (c.args.d.count < 64) × (c.lowest_free-free.result < 64) × (c.booked-k.result.start + c.booked-k.result.e ≤ 4294967295) = let a = c.args in
     let k = c.requires.keeps in
     let u = sound in
@@ -58,7 +58,7 @@ overflow_add-result c =
 
 pub with_slot-requires : goal.with_slot-requires
 with_slot-requires c =
-    let sound : c.args.d.sound ≡ true = not-false c.args.d.sound (ap not c.if-not-d.false) in
+    let sound : c.args.d.sound ≡ true = not-false c.args.d.sound c.if-not-d.false in
     let ready : (c.args.d.count < 64) × (c.lowest_free-free.result < 64) × (c.booked-k.result.start + c.booked-k.result.e ≤ 4294967295) = let a = c.args in
     let k = c.requires.keeps in
     let u = sound in
@@ -72,7 +72,7 @@ with_slot-requires c =
 
 pub returns-in-Rejected : goal.returns-in-Rejected
 returns-in-Rejected c =
-    let sound : c.args.d.sound ≡ true = not-false c.args.d.sound (ap not c.if-not-d.false) in
+    let sound : c.args.d.sound ≡ true = not-false c.args.d.sound c.if-not-d.false in
     λ ks k.
     let a = c.args in
     let u = sound in
@@ -82,7 +82,7 @@ returns-in-Rejected c =
 
 pub returns-in-Refused : goal.returns-in-Refused
 returns-in-Refused c =
-    let sound : c.args.d.sound ≡ true = not-false c.args.d.sound (ap not c.if-not-d.false) in
+    let sound : c.args.d.sound ≡ true = not-false c.args.d.sound c.if-not-d.false in
     λ ks k.
     let a = c.args in
     let u = sound in
@@ -94,7 +94,7 @@ returns-in-Refused c =
 pub returns-in-Placed : goal.returns-in-Placed
 returns-in-Placed c =
     let id-fits : Fits w32 c.args.a.id = search rules in
-    let sound : c.args.d.sound ≡ true = not-false c.args.d.sound (ap not c.if-not-d.false) in
+    let sound : c.args.d.sound ≡ true = not-false c.args.d.sound c.if-not-d.false in
     λ ks k.
     let a = c.args in
     let u = sound in
