@@ -2,12 +2,8 @@
 use mathlib.Core.Path.{refl}
 use Rattle.lists.specs.Lists.{keep, each, range}
 use Rattle.figures.specs.Figures.{verdicts, of, came, waited_in, figures_of, sheet_with, sheet_of}
-use Rattle.figures.proofs.no_figures.Statement.{statement}
-use Rattle.figures.proofs.no_figures.Tie as tie
+use Rattle.figures.proofs.no_figures.Goals as goal
 
-returns : tie.Need-returns
+pub returns : goal.returns
 unfolding sheet_of verdicts sheet_with figures_of of came waited_in keep each range
 returns c = refl
-
-pub no-figures-spec : {M : Type 1} → statement M
-no-figures-spec = tie.close (tie.spec returns)
