@@ -20,13 +20,13 @@ returns-then-v-gt3 c =
 
 pub bump-requires-2 : goal.bump-requires-2
 bump-requires-2 c =
-    let row_inside : let v = c.args.v.before.before.before in v.planner * 20 + v.class * 5 + 5 ≤ 80 = omega (arith, c.if-v-gt3.false, c.requires.0) in
-    let v = c.args.v.before.before.before in
-    (omega (arith, row_inside), omega (arith, c.requires.2.small.before.before.before (v.planner * 20 + v.class * 5)))
+    let row_inside : let v = c.args.v in v.planner * 20 + v.class * 5 + 5 ≤ 80 = omega (arith, c.if-v-gt3.false, c.requires.0) in
+    let v = c.args.v in
+    (omega (arith, row_inside), omega (arith, c.requires.2.small (v.planner * 20 + v.class * 5)))
 
 pub bump-requires-3 : goal.bump-requires-3
 bump-requires-3 c =
-    let row_inside : let v = c.args.v.before.before.before in v.planner * 20 + v.class * 5 + 5 ≤ 80 = omega (arith, c.if-v-gt3.false, c.requires.0) in
+    let row_inside : let v = c.args.v in v.planner * 20 + v.class * 5 + 5 ≤ 80 = omega (arith, c.if-v-gt3.false, c.requires.0) in
     let line = c.args.v.planner * 20 + c.args.v.class * 5 + 1 + c.args.v.fate in
     let few : c.args.v.fate < 3 = omega (arith, c.requires.1, c.if-v-eq3.false) in
     let less = bumped-most c.args.figures.now (c.args.v.planner * 20 + c.args.v.class * 5) 1 line (omega (arith, row_inside, c.requires.2.size)) in
@@ -34,7 +34,7 @@ bump-requires-3 c =
 
 pub bump-requires-4 : goal.bump-requires-4
 bump-requires-4 c =
-    let row_inside : let v = c.args.v.before.before.before in v.planner * 20 + v.class * 5 + 5 ≤ 80 = omega (arith, c.if-v-gt3.false, c.requires.0) in
+    let row_inside : let v = c.args.v in v.planner * 20 + v.class * 5 + 5 ≤ 80 = omega (arith, c.if-v-gt3.false, c.requires.0) in
     let v = c.args.v in
     let at = v.planner * 20 + v.class * 5 in
     let few : v.fate < 3 = omega (arith, c.requires.1, c.if-v-eq3.false) in
