@@ -9,10 +9,6 @@ use Rattle.asking.proofs.Copies.{lent-text, said-as}
 use Rattle.asking.proofs.Lookups.{listed-within, horizon-answers}
 use Rattle.asking.proofs.answer_horizon.Goals as goal
 
--- left, no such goal:
--- part-reply-end : tie.Need-slice-bounds-reply-end
--- part-reply-end c = omega (arith, fits c.before.before.before.before.before.before.before)
-
 pub put_table-n-requires : goal.put_table-n-requires
 put_table-n-requires c =
     let fits : c.horizon-r.result.count * 3 ≤ 768 = listed-within c.args.board 768 c.horizon-r.ensures.value in

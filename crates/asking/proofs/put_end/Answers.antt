@@ -46,5 +46,5 @@ unfolding end_text
 returns-in-PastLast c =
     let e = c.put_bytes.ensures in
     let all = put_as _ (ascii "ask: the recording has more than 1000000000 events: not answered\n") refl e.value e.out_after in
-    let all = rw c.in-PastLast.is (at_front {l = c.args.err.now} all (omega (arith, c.put_bytes-arg-1.given.0.1))) in
-    record { value = all.0; err_after = all.1 }
+    let front = at_front {l = c.args.err.now} all (omega (arith, c.put_bytes-arg-1.given.0.1)) in
+    rw c.in-PastLast.is (record { value = front.0; err_after = front.1 })
