@@ -1,5 +1,7 @@
 // A column's release, for each column in a row, and the row pressed into steps of equal release: what Horizon and the horizon
 // list stand on.
+#![tactic(auto)]
+
 ghost use Rattle.std.specs.Prelude.{◌≡◌, ℕ, suc, ◌<◌, ◌≤◌, length, get_or};
 ghost use Rattle.planners.specs.Planners.{release};
 ghost use Rattle.live.specs.Live.{OnDevice, Falling, tasks_of};
