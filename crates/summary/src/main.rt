@@ -5,6 +5,8 @@
 
 use adding::Adding;
 use batches::Name;
+use std::io;
+use std::process::ExitCode;
 use summing::Summing;
 use system::Pace;
 
@@ -69,7 +71,7 @@ fn show_progress(rt: &HostRuntime, s: Summing, last: Pace) -> Pace {
     pace
 }
 
-fn sum_files(rt: &HostRuntime, first: usize, end: usize) {
+fn sum_files(rt: &HostRuntime, first: usize, end: usize) -> io::Result<()> {
     let mut s = summing::begin();
     let mut name = system::name_of(rt, 0);
     let mut pace = system::first_pace(rt);
@@ -89,14 +91,15 @@ fn sum_files(rt: &HostRuntime, first: usize, end: usize) {
         system::show(rt, &pace, b"");
     }
     if failed {
-        return;
+        return Ok(());
     }
     let mut out = system::no_page();
     let mut err = system::no_page();
     let closed = summing::close(s, name, &mut out, &mut err);
     let used = closed.used;
     let said = closed.said;
-    system::write(rt, b"summary: ", &out[0..used], &err[0..said]);
+    system::write(rt, b"summary: ", &out[0..used], &err[0..said])?;
+    Ok(())
 }
 
 // The machine after a text, and whether another may follow: none where the text could not be read or was refused.
@@ -106,13 +109,13 @@ struct Added {
     on: bool,
 }
 
-fn add_file(rt: &HostRuntime, before: Adding, file: usize) -> Added {
+fn add_file(rt: &HostRuntime, before: Adding, file: usize) -> io::Result<Added> {
     let name = system::name_of(rt, file);
     if name.size == 0 {
-        return Added {
+        return Ok(Added {
             adding: before,
             on: true,
-        };
+        });
     }
     let label = system::label_of(b"summary: ", name);
     let program = label.bytes;
@@ -135,22 +138,22 @@ fn add_file(rt: &HostRuntime, before: Adding, file: usize) -> Added {
     if !on & !input.failed {
         let mut reason = [0u8; 128];
         let used = adding::put_refusal(end, &mut reason);
-        system::write(rt, b"summary: ", b"", &program[0..size]);
-        system::write(rt, b"summary: ", b"", &reason[0..used]);
+        system::write(rt, b"summary: ", b"", &program[0..size])?;
+        system::write(rt, b"summary: ", b"", &reason[0..used])?;
     }
-    Added {
+    Ok(Added {
         adding: end,
         on: on,
-    }
+    })
 }
 
-fn add_files(rt: &HostRuntime, first: usize, end: usize) {
+fn add_files(rt: &HostRuntime, first: usize, end: usize) -> io::Result<()> {
     let mut a = adding::begin();
     let mut on = true;
     let mut file = first;
     let mut turns = u64::MAX;
     while 0 < turns {
-        let done = add_file(rt, a, file);
+        let done = add_file(rt, a, file)?;
         a = done.adding;
         on = done.on;
         file = system::after(file);
@@ -159,27 +162,31 @@ fn add_files(rt: &HostRuntime, first: usize, end: usize) {
     if on {
         let mut out = system::no_page();
         let used = adding::close(a, &mut out);
-        system::write(rt, b"summary: ", &out[0..used], b"");
+        system::write(rt, b"summary: ", &out[0..used], b"")?;
     }
+    Ok(())
 }
 
-fn main(rt: HostRuntime) {
-    let batch = system::batched(&rt);
+fn run(rt: &HostRuntime) -> io::Result<()> {
+    let batch = system::batched(rt);
     let mut page = system::page();
     if batch.help | batch.wrong {
         let size = manuals::put_summary(&mut page, batch.help);
-        system::tell(&rt, b"summary: ", batch.help, &page[0..size]);
-        return;
+        system::tell(rt, b"summary: ", batch.help, &page[0..size])?;
+        return Ok(());
     }
     let mut first: usize = 0;
     let mut end: usize = 1;
     if batch.named {
         first = 1;
-        end = system::arguments(&rt);
+        end = system::arguments(rt);
     }
     if batch.add {
-        add_files(&rt, first, end);
-    } else {
-        sum_files(&rt, first, end);
+        return add_files(rt, first, end);
     }
+    sum_files(rt, first, end)
+}
+
+fn main(rt: HostRuntime) -> ExitCode {
+    system::status(run(&rt))
 }

@@ -9,8 +9,9 @@ use batches::{Batch, Name};
 use orders::Order;
 use std::env::{Env, FillError};
 use std::fs::{File, OpenOptions};
-use std::io::{Error, IsTerminal, Print, Read, Write};
+use std::io::{Error, ErrorKind, IsTerminal, Print, Read, Write};
 use std::os::unix::fs::FileTypeExt;
+use std::process::ExitCode;
 use std::time::{CpuClock, Duration};
 use std::{fs, io, str};
 
@@ -278,25 +279,47 @@ pub fn shut(input: Input) {
     drop(input);
 }
 
-// Writes to standard output and standard error; where that fails, standard error says so, and there is nothing to go on with.
-pub fn write(rt: &HostRuntime, program: &[u8], out: &[u8], err: &[u8]) -> bool {
-    let told = Print::write_all(&rt.stdout(), out);
-    let said = Print::write_all(&rt.stderr(), err);
-    match told.and(said) {
-        Ok(()) => true,
-        Err(e) => {
+// Why a write failed, if it did. An `Err` where nobody reads what is written: the runtime keeps the system's signal away, which
+// would have ended the program there.
+fn failure(written: io::Result<()>) -> io::Result<Option<Error>> {
+    match written {
+        Ok(()) => Ok(None),
+        Err(e) if e.kind() == ErrorKind::BrokenPipe => Err(e),
+        Err(e) => Ok(Some(e)),
+    }
+}
+
+// Writes to standard output and standard error; where that fails, standard error says so, and there is nothing to go on with. An
+// `Err` where nobody reads what is written: nothing more is, and the program is to end (`status`).
+pub fn write(rt: &HostRuntime, program: &[u8], out: &[u8], err: &[u8]) -> io::Result<bool> {
+    let told = failure(Print::write_all(&rt.stdout(), out))?;
+    let said = failure(Print::write_all(&rt.stderr(), err))?;
+    match told.or(said) {
+        None => Ok(true),
+        Some(e) => {
             fail(rt, program, b"cannot write", e);
-            false
+            Ok(false)
         }
     }
 }
 
 // A manual that was asked for goes to standard output, a usage to standard error.
-pub fn tell(rt: &HostRuntime, program: &[u8], asked: bool, manual: &[u8]) -> bool {
+pub fn tell(rt: &HostRuntime, program: &[u8], asked: bool, manual: &[u8]) -> io::Result<bool> {
     if asked {
         return write(rt, program, manual, b"");
     }
     write(rt, program, b"", manual)
+}
+
+// What a shell shows of a program that the system's signal ended since nobody read what it wrote.
+const UNREAD: u8 = 141;
+
+// With what a program ends.
+pub fn status(ended: io::Result<()>) -> ExitCode {
+    match ended {
+        Ok(()) => ExitCode::SUCCESS,
+        Err(_) => ExitCode::from(UNREAD),
+    }
 }
 
 // A loop has to end, and nothing says that the input does: the turns that are left, 0 where there is no more.

@@ -1,6 +1,6 @@
 -- The piece that is still to be taken lies in the lent room.
 use Rattle.std.proofs.Common.{◌≤◌, length}
-use Rattle.record.proofs.main.Given as goal
+use Rattle.record.proofs.run.Given as goal
 
 abbrev pub invariant-loop-turns : goal.invariant-loop-turns
 invariant-loop-turns l = (l.input.from ≤ l.input.to) × (l.input.to ≤ length l.piece)
