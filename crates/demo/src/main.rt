@@ -165,7 +165,9 @@ fn show_pictures(
 }
 
 fn main(rt: HostRuntime) -> io::Result<()> {
-    println!(rt; "Table 1 on 10 x 6: column, start of tasks 1 to 7, as planned here and as document 01 has it")?;
+    println!(rt;
+        "Table 1 on 10 x 6: column, start of tasks 1 to 7, as planned here and as document 01 has it"
+    )?;
     print!(rt; "reference  here:")?;
     let reference = play(&rt, 0)?;
     println!(rt; "           01:   (1,0) (4,0) rejected rejected rejected rejected (4,3)")?;
@@ -178,7 +180,9 @@ fn main(rt: HostRuntime) -> io::Result<()> {
     print!(rt; "full       here:")?;
     let full = play(&rt, 3)?;
     println!(rt; "           01:   (1,0) (4,0) (4,3) (7,3) (7,6) (4,15) (7,8)")?;
-    println!(rt; "\nWhat each planner did: columns 1 to 10 across, time down; the number of the task that holds the column, a dot where it is free")?;
+    println!(rt;
+        "\nWhat each planner did: columns 1 to 10 across, time down; the number of the task that holds the column, a dot where it is free"
+    )?;
     println!(rt; "tick  reference   horizon     stuffing    full")?;
     show_pictures(&rt, reference, horizon, stuffing, full)
 }

@@ -51,12 +51,13 @@ fn sum_file(rt: &HostRuntime, before: Summing, file: usize, last: Name, told: Pa
         pace = show_progress(rt, s, pace);
         turns = system::turns_left(input.more & summing::goes_on(s), turns);
     }
+    let failed = input.failed;
     system::shut(input);
     Summed {
         summing: s,
         name: name,
-        failed: input.failed,
-        on: !input.failed & summing::ends_whole(s),
+        failed: failed,
+        on: !failed & summing::ends_whole(s),
         pace: pace,
     }
 }
@@ -132,10 +133,11 @@ fn add_file(rt: &HostRuntime, before: Adding, file: usize) -> io::Result<Added> 
         input = system::pass(input, to - from);
         turns = system::turns_left(input.more & adding::goes_on(a), turns);
     }
+    let failed = input.failed;
     system::shut(input);
     let end = adding::end_text(a);
-    let on = !input.failed & adding::goes_on(end);
-    if !on & !input.failed {
+    let on = !failed & adding::goes_on(end);
+    if !on & !failed {
         let mut reason = [0u8; 128];
         let used = adding::put_refusal(end, &mut reason);
         system::write(rt, b"summary: ", b"", &program[0..size])?;
