@@ -15,12 +15,12 @@ import subprocess
 import sys
 import tempfile
 
-ID = r"[^\W\d][\w'₀-₉]*(?:-[\w'₀-₉]+)*"
+ID = r"[^\W\d][\w'?₀-₉]*(?:-[\w'?₀-₉]+)*"
 PATH = re.compile(rf"(?<![\w'.₀-₉-])(?P<base>{ID})(?P<path>(?:\.(?:{ID}|\d+))*)")
 
 
 def norm(n):
-    n = n.replace("_", "-")
+    n = n.replace("_", "-").lower()
     return re.sub(r"^overflow-", "", n)
 
 
@@ -134,7 +134,7 @@ class Turn:
                 if kind and len(self.clauses.get(s, [])) == 1 and not (fields and fields[0] == self.clauses[s][0]):
                     out.append(self.clauses[s][0])
                     kind = None
-                if s.startswith("if-not-") and not any(k.endswith("-" + s[7:]) for k in self.callees) and x in ("true", "false") and not fields:
+                if s.startswith("if-not-") and not any(k.endswith("-" + s[7:]) for k in self.callees) and not re.search(r"!" + re.escape(s[7:]) + r"\.", SOURCE) and x in ("true", "false") and not fields:
                     return "(ap not " + ".".join(out) + ")", None
             elif isinstance(kind, tuple) and kind[0] == "ensures":
                 names = self.clauses.get(kind[1])
@@ -214,7 +214,7 @@ class Helpers:
                 self.bad.append(b)
                 continue
             v = k.groupdict().get("v") or args[0]
-            if re.fullmatch(rf"\s*{ID}(\.before)*\s*", m.group("b")) or (re.match(r"tie\.", k.group("r")) and "\n" not in m.group("b").strip()):
+            if re.fullmatch(rf"\s*{ID}(\.before)*\s*", m.group("b")) or ((re.match(r"tie\.", k.group("r")) or k.group("r").strip() in self.types) and "\n" not in m.group("b").strip()):
                 self.back.append((m.group("n"), args[0], m.group("b").strip()))
             else:
                 body = m.group("b").strip()
@@ -332,7 +332,7 @@ def turn(path, f, module):
     for b in odd:
         k = re.search(rf"^(?:abbrev |unfoldable )?(?:pub )?(?:record |data )?({ID})(?=[ :])", re.sub(r"^(--[^\n]*\n)*", "", b))
         if k and re.search(rf"(?<![\w'.-]){re.escape(k.group(1))}(?![\w'-])", said + "\n".join(shared)):
-            b = re.sub(rf"(?m)^(abbrev |unfoldable |)(?:pub )?(record |data |)({re.escape(k.group(1))} :|{re.escape(k.group(1))} )", lambda m: f"{m.group(1)}pub {m.group(2)}{m.group(3)}" if m.group(3).endswith(":") or m.group(2) else m.group(0), b, count=1)
+            b = re.sub(rf"(?m)^(abbrev |unfoldable |)(?:pub )?(record |data |)({re.escape(k.group(1))} :|{re.escape(k.group(1))} )", lambda m: f"{m.group(1) or ('' if m.group(2) else 'unfoldable ')}pub {m.group(2)}{m.group(3)}" if m.group(3).endswith(":") or m.group(2) else m.group(0), b, count=1)
             shared.append(b)
             Names.append(k.group(1))
         else:
@@ -384,7 +384,8 @@ def turn(path, f, module):
         if lets:
             body = lets + ("\n    " + body.strip())
         unf = f"unfolding {' '.join(unf)}\n" if unf else ""
-        answers.append(f"{m.group('c')}pub {new} : goal.{new}\n{unf}{new} c ={body}")
+        more = "".join(" " + a for a in args[1:] if not a.startswith("κ"))
+        answers.append(f"{m.group('c')}pub {new} : goal.{new}\n{unf}{new} c{more} ={body}")
     return head, uses, invs_text, out, answers
 
 
@@ -462,9 +463,15 @@ def used(uses, text):
     return out
 
 
+SOURCE = ""
+
+
 def main():
+    global SOURCE
     crate = sys.argv[1]
     where = os.path.join("crates", crate)
+    for p in os.listdir(os.path.join(where, "src")):
+        SOURCE += open(os.path.join(where, "src", p), encoding="utf-8").read()
     with tempfile.TemporaryDirectory() as d:
         r = subprocess.run(["rt", "check", "--generated", d, "--old-names"], cwd=where, capture_output=True, text=True)
         try:

@@ -1,5 +1,7 @@
 // The board of document 01, its calls and what they answer. The calls test what they are handed and put the answer together;
 // the work is done in the crates below.
+#![tactic(auto)]
+
 ghost use Rattle.std.specs.Prelude.{◌≡◌, List, ℕ, ◌+◌, ◌≤◌, ◌<◌, length};
 ghost use Rattle.tasks.specs.declared.Task.{Task};
 ghost use Rattle.live.specs.Live.{Masked};

@@ -1,4 +1,6 @@
 // What `ask` answers with, as text: the line of the answer, and a board with its live tasks.
+#![tactic(auto)]
+
 ghost use Rattle.std.specs.Prelude.{◌≡◌, cond, [], ◌∷◌, ◌++◌, ◌+◌, ◌≤◌, ◌<◌, length};
 ghost use Rattle.lists.specs.Lists.{over_front};
 ghost use Rattle.tasks.specs.Tasks.{live};

@@ -1,4 +1,6 @@
 // Busy columns: the columns held at an instant are marked in four words, and their ones are counted.
+#![tactic(auto)]
+
 ghost use Rattle.std.specs.Prelude.{◌≡◌, ℕ, ◌≤◌};
 ghost use Rattle.lists.specs.Lists.{some?};
 ghost use Rattle.tasks.specs.Tasks.{holds};

@@ -1,4 +1,6 @@
 // Horizon: the first visited time with a run of released columns that is wide enough.
+#![tactic(auto)]
+
 ghost use Rattle.std.specs.Prelude.{◌≡◌, ℕ, ◌≤◌};
 ghost use Rattle.planners.specs.Planners.{horizon};
 ghost use Rattle.live.specs.Live.{OnDevice, Falling, tasks_of};

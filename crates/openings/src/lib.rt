@@ -1,6 +1,8 @@
 // The list of openings after a pair, written to a lent buffer: a run of columns at a time, in steps of the grid, from tick to tick
 // while something is open, from finish to finish where nothing is. Its cost grows with the openings written and the live tasks, not
 // with blocked ticks.
+#![tactic(auto)]
+
 ghost use Rattle.std.specs.Prelude.{◌≡◌, ◌+◌, ◌-◌, ◌*◌, ◌/◌, ◌<◌, length, take};
 ghost use Rattle.lists.specs.Lists.{over_front};
 ghost use Rattle.ways.specs.Ways.{pair, openings_after};

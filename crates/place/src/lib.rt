@@ -1,4 +1,6 @@
 // The four planners by their numbers.
+#![tactic(auto)]
+
 ghost use Rattle.std.specs.Prelude.{◌≡◌, ◌≤◌};
 ghost use Rattle.live.specs.Live.{LentTo, tasks_of};
 ghost use Rattle.tasks.specs.Numbers.{last_planner};

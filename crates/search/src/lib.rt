@@ -1,6 +1,8 @@
 // Reference and Full: one search over words of columns, from finish to finish. At an instant: the columns free during the whole stay, and
 // the places where w of them begin. Full takes the first; Reference, which looks at now only, the left edge of the narrowest run of
 // columns that are free at the instant. It never steps tick by tick.
+#![tactic(auto)]
+
 ghost use Rattle.std.specs.Prelude.{◌≡◌, cond};
 ghost use Rattle.live.specs.Live.{Lent, tasks_of};
 ghost use Rattle.planners.specs.Openings.{full};

@@ -1,5 +1,7 @@
 // The run of a recording. The board that it is handed is tested once; inside, soundness is carried by proof. No board is copied: the
 // live tasks stand in one table, and the records are brought up to the clock at the end.
+#![tactic(auto)]
+
 ghost use Rattle.std.specs.Prelude.{◌≡◌, [], ◌∷◌, ◌+◌, ◌-◌, ◌*◌, ◌≤◌, ◌<◌, length, drop};
 ghost use Rattle.std.proofs.lemmas.List.Edits.{sets};
 ghost use Rattle.tasks.specs.declared.Task.{Task};

@@ -1,5 +1,7 @@
 // What each event does to the board inside a run. Soundness is carried by proof, and no board is copied: its live tasks stand in the
 // table that the planners read.
+#![tactic(auto)]
+
 ghost use Rattle.std.specs.Prelude.{◌≡◌, List};
 ghost use Rattle.tasks.specs.declared.Task.{Task};
 ghost use Rattle.events.specs.declared.Event.TheVariants.{Clock, Withdraw};

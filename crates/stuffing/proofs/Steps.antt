@@ -1,5 +1,5 @@
 -- The walk over the tasks: whether a stay meets one. Assumes nothing.
-use Rattle.std.proofs.Common.{◌≡◌, ℕ, ◌+◌, ◌-◌, ◌<◌, ◌≤◌, Bool, true, false, ◌&&◌, ◌||◌, ltb, ◌⊎◌, List, sym, refl, ap, ◌∙◌, inl, inr, arith, le-ltb, lt-ltb}
+use Rattle.std.proofs.Common.{◌≡◌, ℕ, ◌+◌, ◌-◌, ◌<◌, ◌≤◌, Bool, true, false, ◌&&◌, ◌||◌, ltb, List, sym, ap, ◌∙◌, arith, le-ltb, lt-ltb}
 use mathlib.Core.Bool.{and-false}
 use Rattle.lists.specs.Lists.{some?, range}
 use Rattle.live.specs.Live.{from_at, finish_at, left_at, past_at, task_at, tasks_of, OnDevice, Falling, After}
@@ -32,15 +32,6 @@ module _ (live : List ℕ) (c w t e : ℕ) where
     abbrev test : ℕ → Bool
     test i = (ltb c (past_at live i) && ltb (left_at live i) (c + w)) && ltb (from_at live i) (t + e)
 
-    -- a comparison that parts the stay from task i: it starts when the stay has ended, or its columns lie to the right, or to the left
-    abbrev pub Parted : ℕ → Type 0
-    Parted i = (t + e ≤ from_at live i) ⊎ ((c + w ≤ left_at live i) ⊎ (past_at live i ≤ c))
-
-    parts : (i : ℕ) → Parted i → test i ≡ false
-    parts i (inl k) = rw (le-ltb (from_at live i) (t + e) k) (and-false (ltb c (past_at live i) && ltb (left_at live i) (c + w)))
-    parts i (inr (inl k)) = rw (le-ltb (left_at live i) (c + w) k, and-false (ltb c (past_at live i))) refl
-    parts i (inr (inr k)) = rw (le-ltb c (past_at live i) k) refl
-
     module _ (f : Falling count live) {i : ℕ} (m : MeetsFrom count n i) (h : i < n) where
       here : some? (meets_at c w t e) (tasks_of count live) ≡ (test i || some? meet (range (i + 1) (n - (i + 1))))
       here =
@@ -49,11 +40,11 @@ module _ (live : List ℕ) (c w t e : ℕ) where
           (meets_at_lem o i (omega (arith, a.few)) c w t e p q
           ∙ ap (λ b. (ltb c (past_at live i) && ltb (left_at live i) (c + w)) && (b && ltb (from_at live i) (t + e))) (lt-ltb t (finish_at live i) (after-stays f a i h)))
 
-      pub meets-hit : from_at live i < t + e → left_at live i < c + w → c < past_at live i → true ≡ some? (meets_at c w t e) (tasks_of count live)
-      meets-hit x y z = sym (here ∙ rw (lt-ltb (from_at live i) (t + e) x, lt-ltb (left_at live i) (c + w) y, lt-ltb c (past_at live i) z) refl)
+      pub meets-hit : test i ≡ true → true ≡ some? (meets_at c w t e) (tasks_of count live)
+      meets-hit z = sym (here ∙ ap (λ b. b || some? meet (range (i + 1) (n - (i + 1)))) z)
 
-      pub meets_on : Parted i → MeetsFrom count n (i + 1)
-      meets_on k = record { upto = omega arith; rest = here ∙ ap (λ b. b || some? meet (range (i + 1) (n - (i + 1)))) (parts i k) }
+      pub meets_on : test i ≡ false → MeetsFrom count n (i + 1)
+      meets_on z = record { upto = omega arith; rest = here ∙ ap (λ b. b || some? meet (range (i + 1) (n - (i + 1)))) z }
 
   pub meets-end : {count n i : ℕ} → MeetsFrom count n i → n ≤ i → false ≡ some? (meets_at c w t e) (tasks_of count live)
   meets-end {count} {n} {i} m h = sym (m.rest ∙ some_end meet i n h)

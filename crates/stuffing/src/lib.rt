@@ -1,4 +1,6 @@
 // Stuffing (Algorithm 2 of the source) over the live tasks that are lent, by the plain method: column by column.
+#![tactic(auto)]
+
 ghost use Rattle.std.specs.Prelude.{◌≡◌, ◌+◌, ◌<◌, ◌≤◌, length, replicate, if◌then◌else◌};
 ghost use Rattle.lists.specs.Lists.{some?, never};
 ghost use Rattle.planners.specs.Planners.{stuffing};
@@ -112,12 +114,10 @@ fn meets_any(
     let end = t + e;
     let mut i: usize = 0;
     while i < n {
-        if live[live::FROM + i] < end {
-            if live[live::LEFT + i] < to {
-                if c < live[live::PAST + i] {
-                    return true;
-                }
-            }
+        if ((c < live[live::PAST + i]) & (live[live::LEFT + i] < to))
+            & (live[live::FROM + i] < end)
+        {
+            return true;
         }
         i += 1;
     }

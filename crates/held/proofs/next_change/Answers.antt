@@ -4,11 +4,8 @@ use native.Mathlib.Decide.{dec_lt, ℕ_discrete as dec_eq}
 use Rattle.lists.specs.Lists.{never}
 use Rattle.live.specs.Live.{from_at, finish_at, Falling, After, NextFinish}
 use Rattle.held.specs.Held.{Unchanged}
+use Rattle.held.proofs.next_change.Invariants.{Comes}
 use Rattle.held.proofs.next_change.Goals as goal
-
--- none of the first i tasks comes into the stay before r
-Comes : (live : List ℕ) (i t e r : ℕ) → Type 0
-Comes live i t e r = (j : ℕ) → j < i → t + e ≤ from_at live j → r + e ≤ from_at live j + 1
 
 -- `comes` is what the start lies past t + e, where it comes after
 one_more : (live : List ℕ) (n t e best comes r : ℕ) → Comes live n t e (t + 1 + best)

@@ -15,7 +15,7 @@ put_steps-requires c =
     ((k.0, k.1 ∙ ap (λ s. a.from + k.0 * s) z, k.2), omega arith, c.requires.2)
 
 pub returns-then-step-eq1 : goal.returns-then-step-eq1
-returns-then-step-eq1 c =
+returns-then-step-eq1 c n e =
     let a = c.args in
     let z : a.step ≡ 1 = omega (arith, c.if-step-eq1.true) in
     let put = c.put_steps.ensures n (e ∙ ap (λ s. a.from + n * s) z) in

@@ -114,7 +114,7 @@ loop-c-preserved c =
     )
 
 pub returns : goal.returns
-returns c =
+returns c k e =
     let l = c.loop-c in
     let a = c.args in
     let n = l.invariant.0 in

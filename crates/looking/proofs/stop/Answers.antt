@@ -28,17 +28,17 @@ overflow_add-reach c =
     let m = reach in search rules
 
 pub returns-then-reach-to : goal.returns-then-reach-to
-returns-then-reach-to c =
+returns-then-reach-to c k e =
     let a = c.args in
     record { count = a.room; is = refl; fits = omega arith; some = c.requires.5; high = omega arith }
 
 pub returns-else-reach-to : goal.returns-else-reach-to
-returns-else-reach-to c =
+returns-else-reach-to c k e =
     let a = c.args in
     all a.from a.to a.room a.step k c.requires.3 e c.requires.0 (le_of_mul-le-mul_right {m = k} {n = a.room} {k = a.step} (omega arith) (omega (arith, c.requires.0)))
 
 pub returns-else-room-lt256 : goal.returns-else-room-lt256
-returns-else-room-lt256 c =
+returns-else-room-lt256 c k e =
     let a = c.args in
     let h = mul-le-mul_left k (let z : 1 ≤ a.step = c.requires.0 in z) in
     all a.from a.to a.room a.step k c.requires.3 e c.requires.0 (omega (arith, c.requires.4, mul-one k))

@@ -8,6 +8,7 @@ use lib.Dec.{eqb}
 use Rattle.lists.specs.Lists.{pairwise?, range}
 use Rattle.live.specs.Live.{id_at}
 use Rattle.soundness.proofs.Pairs.{pairs-on, pairs-off, pairs_end}
+use Rattle.soundness.proofs.ids_differ.Invariants.{apart?}
 use Rattle.soundness.proofs.ids_differ.Goals as goal
 
 whole : (live : List ℕ) (n : ℕ) → apart? live 0 n ≡ pairwise? (λ a b. not (eqb (id_at live a) (id_at live b))) (range 0 n)

@@ -9,7 +9,7 @@ use Rattle.live.specs.Live.{id_at}
 use Rattle.soundness.proofs.ids_differ.Given as goal
 
 -- no two from i on have one id
-abbrev apart? : List ℕ → ℕ → ℕ → Bool
+abbrev pub apart? : List ℕ → ℕ → ℕ → Bool
 apart? live i n = pairwise? (λ a b. not (eqb (id_at live a) (id_at live b))) (range i (n - i))
 
 abbrev pub invariant-loop-i : goal.invariant-loop-i

@@ -1,0 +1,39 @@
+-- `stuffing::next_key` meets its contract: of the keys passed none lies between, and it is one of them or never. Assumes nothing.
+use Rattle.std.proofs.Common.{◌≡◌, ℕ, ◌+◌, ◌-◌, ◌%◌, ◌<◌, ◌≤◌, min, ◌⊎◌, List, get_or, inl, inr, arith}
+use native.Mathlib.Decide.{dec_lt, ℕ_discrete as dec_eq}
+use Rattle.lists.specs.Lists.{never}
+use Rattle.stuffing.specs.Fit.{NextKey}
+use Rattle.stuffing.proofs.next_key.Goals as goal
+
+-- `over` is what key m lies past after + 1, where it lies past after
+one_more : (keys : List ℕ) (m after best over r : ℕ) → NextKey keys m after (after + 1 + best) → after + 1 + best ≤ never → over < 4294967296
+    → (over + (after + 1)) % 4294967296 ≡ get_or keys m 0 → r ≡ min over best → NextKey keys (m + 1) after (after + 1 + r)
+one_more keys m after best over r o h p q e = record { past = omega arith; least = λ i l k. at i l k (dec_eq i m); one = is (dec_lt over best) o.one }
+  where
+    at : (i : ℕ) → i < m + 1 → after < get_or keys i 0 → Dec (i ≡ m) → after + 1 + r ≤ get_or keys i 0
+    at i l k (yes z) = let y : after < get_or keys m 0 = rw z at k in rw z (omega arith)
+    at i l k (no z) = omega (arith, o.least i (omega arith) k)
+
+    is : Dec (over < best) → (after + 1 + best ≡ never) ⊎ ((i : ℕ) × (i < m) × (get_or keys i 0 ≡ after + 1 + best))
+        → (after + 1 + r ≡ never) ⊎ ((i : ℕ) × (i < m + 1) × (get_or keys i 0 ≡ after + 1 + r))
+    is (yes l) b = inr (m, omega arith, omega arith)
+    is (no l) (inl b) = inl (omega arith)
+    is (no l) (inr b) = inr (b.0, omega (arith, b.1), omega (arith, b.2))
+
+pub loop-i-init : goal.loop-i-init
+loop-i-init c = (omega arith, omega arith, record { past = omega arith; least = λ i h. absurd (omega arith); one = inl (omega arith) })
+
+pub loop-i-preserved : goal.loop-i-preserved
+loop-i-preserved c =
+    let l = c.loop-i in
+    let w = c.wrapping_sub_u32 in (
+      omega arith,
+      omega arith,
+      one_more _ l.i _ l.best w.result c.lesser-best.result l.invariant.2 l.invariant.1 (omega arith) w.ensures.value c.lesser-best.ensures,
+    )
+
+pub returns : goal.returns
+returns c =
+    let l = c.loop-i in
+    let e : l.i ≡ c.args.m = omega (arith, l.invariant.0) in
+    rw (← e) l.invariant.2
