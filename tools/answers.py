@@ -231,7 +231,8 @@ class Helpers:
             for n, v, body in self.back:
                 def sub(m):
                     a = m.group("arg")
-                    return re.sub(rf"(?<![\w'.-]){re.escape(v)}(?![\w'-])", lambda _: a, body)
+                    it = re.sub(rf"(?<![\w'.-]){re.escape(v)}(?![\w'-])", lambda _: a, body)
+                    return f"({it})" if " " in it else it
                 text = re.sub(rf"\({re.escape(n)} {self.ARG}\)", sub, text)
                 text = re.sub(rf"(?<![\w'.-]){re.escape(n)} {self.ARG}", sub, text)
             text = re.sub(rf"\((?!cc\b)({ID}(?:\.before)*)\)", r"\1", text)

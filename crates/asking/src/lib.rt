@@ -1,4 +1,6 @@
 // The program `ask` as a machine: it is fed the recording in pieces, closed, and then says its answer part by part.
+#![tactic(auto)]
+
 ghost use Rattle.std.specs.Prelude.{◌≡◌, ◌+◌, ◌*◌, ◌≤◌, min, length, take};
 ghost use Rattle.lists.specs.Lists.{over_front};
 ghost use Rattle.text.specs.Digits.{Put};

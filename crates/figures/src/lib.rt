@@ -1,4 +1,6 @@
 // The acceptance figures of a recording, counted from its lines and its records.
+#![tactic(auto)]
+
 ghost use Rattle.std.specs.Prelude.{◌≡◌, cond, [], ◌∷◌, ◌+◌, ◌-◌, ◌*◌, ◌≤◌, ◌<◌, eqb, length, get_or, drop};
 ghost use Rattle.events.specs.Records.{read_from};
 ghost use Rattle.sheets.specs.Sheets.{plus};

@@ -1,4 +1,6 @@
 // The listing that `plan` writes: a machine that is fed a recording piece by piece and gives its text.
+#![tactic(auto)]
+
 ghost use Rattle.std.specs.Prelude.{◌≡◌, cond, [], ◌∷◌, suc, ◌*◌, ◌≤◌, min, length};
 ghost use Rattle.lists.specs.Lists.{over_front};
 ghost use Rattle.text.specs.Digits.{Put};

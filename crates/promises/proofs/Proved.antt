@@ -32,8 +32,8 @@ use Rattle.board.specs.Refusals.{refusal, sound_board, refused_create, refused_s
 use Rattle.events.specs.Records.{bytes_of, number_of, kind_of, body_of, record_of, whole_or15, read_from, written, written_buffer, told_read, told_written, id_of}
 use Rattle.session.specs.Recording.{first_state, line_of, stop_line, outcome, story_from, story}
 use Rattle.promises.specs.Cases.{task, numbers, record_numbers, after_event, play, same, same_all, passes, at, only}
-use Rattle.promises.specs.Edges.{refused_list, end_of, filled_up, beside, edge_set}
-use Rattle.promises.specs.Neighbours.{middle, neighbours, lent_to}
+use Rattle.promises.specs.Edges.{refused_list, end_of, filled_up, edge_set}
+use Rattle.promises.specs.Neighbours.{middle, neighbours, lent_to, beside, beside_set}
 use Rattle.promises.specs.ProvingSet.{played, with_deadline, table_with, with_clocks, first_six, seven, listing, proving_set_over, proving_set}
 use Rattle.promises.specs.ProvingSet.{two_runs, waiting_ahead, telling_set, listing_events, listing_printed, recording}
 
@@ -75,7 +75,7 @@ unfolding numbers record_numbers after_event play same same_all passes at only
 open-cases = tt
 
 open-sets : Unit {0}
-unfolding refused_list end_of filled_up beside edge_set neighbours lent_to played with_deadline table_with with_clocks first_six seven listing proving_set_over proving_set two_runs waiting_ahead telling_set
+unfolding refused_list end_of filled_up edge_set neighbours lent_to beside beside_set played with_deadline table_with with_clocks first_six seven listing proving_set_over proving_set two_runs waiting_ahead telling_set
 open-sets = tt
 
 open-listing : Unit {0}
@@ -104,6 +104,11 @@ telling-set = tt
 pub edge-set : T (all? passes edge_set)
 unfolding open-book
 edge-set = tt
+
+-- Stuffing beside a waiting task that touches the place, or shares one tick or one column with it
+pub beside-set : T (all? passes beside_set)
+unfolding open-book
+beside-set = tt
 
 -- document 02, Q-2: with now 5 and e 4, openings up to 10,000,009 are not refused (the edges have 10,000,010; there are too many openings here to be listed by the checker)
 pub openings-lax : refused_openings (clocked (created 4 1 1).board 5).board (task 1 1 4 10000009) ≡ 0

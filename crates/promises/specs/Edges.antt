@@ -1,7 +1,7 @@
 -- The edges of every number range, and each refusal beside those that could win over it. Assumes nothing.
 use Rattle.std.specs.Prelude.{ℕ, cond, List, [], ◌∷◌, ◌++◌, map, eqb, replicate}
 use Rattle.lists.specs.Lists.{range}
-use Rattle.promises.specs.Cases.{Step, board, grid, submit, clock, withdraw, horizon, openings, busy, slot, Case, case, at, only}
+use Rattle.promises.specs.Cases.{board, grid, submit, clock, withdraw, horizon, openings, busy, slot, Case, case, at, only}
 
 -- a question that is refused: the number, a count of 0, for openings no further one, and a buffer as it was
 unfoldable pub refused_list : ℕ → List ℕ → List ℕ
@@ -23,12 +23,6 @@ filled_up =
     ++ (only 9 ∷ only 9 ∷ only 8 ∷ only 9 ∷ only 18 ∷ (5 ∷ 1 ∷ 1 ∷ 3 ∷ 9 ∷ 5 ∷ 0 ∷ 2 ∷ []) ∷ only 0 ∷ replicate 8 0
     ∷ at 5 3 9 ∷ (4 ∷ 1 ∷ 1 ∷ 9 ∷ 9 ∷ 4 ∷ 0 ∷ 2 ∷ [])
     ∷ (65 ∷ 1 ∷ 1 ∷ 6 ∷ 9 ∷ 5 ∷ 3 ∷ 2 ∷ []) ∷ (6 ∷ 1 ∷ 1 ∷ 9 ∷ 9 ∷ 6 ∷ 0 ∷ 2 ∷ []) ∷ only 9 ∷ []))
-
--- columns 1–3 free, 4 held up to tick 4, columns 3–4 booked from then on to 7, now 1; then others
-unfoldable pub beside : List Step → List (List ℕ) → Case
-beside vs out =
-    case 4 1 (submit 0 1 4 1 1 9 ∷ submit 1 2 2 1 9 20 ∷ submit 1 3 1 1 3 20 ∷ submit 1 4 1 1 3 20 ∷ submit 1 5 2 1 3 20 ∷ withdraw 2 ∷ withdraw 3 ∷ clock 1 ∷ vs)
-    (at 1 0 1 ∷ at 1 1 10 ∷ at 3 1 4 ∷ at 4 1 4 ∷ at 3 4 7 ∷ only 0 ∷ only 0 ∷ only 0 ∷ out)
 
 -- THE EDGES, cases 10 to 12 of document 01 among them
 unfoldable pub edge_set : List Case
@@ -65,14 +59,6 @@ edge_set =
     ∷ case 1 1 (grid 16 1 4 ∷ submit 0 1 4 1 4 9 ∷ submit 2 2 4 1 2 9 ∷ submit 1 3 8 1 3 9 ∷ submit 3 4 8 1 1 9
     ∷ submit 2 5 8 1 2 5 ∷ submit 0 6 4 1 1 9 ∷ openings 8 1 1 5 0 0 6 ∷ [])
     (only 0 ∷ at 1 0 4 ∷ at 5 0 2 ∷ at 9 0 3 ∷ at 5 3 4 ∷ only 10 ∷ only 10 ∷ (0 ∷ 3 ∷ 0 ∷ 4 ∷ 1 ∷ 4 ∷ 5 ∷ 4 ∷ 9 ∷ []) ∷ [])
-    -- document 02, Q-4, Stuffing beside a waiting task on columns 1–4 from tick 4 to 7, on 5–6: columns that touch; columns and ticks that touch
-    ∷ case 6 1 (submit 0 1 4 1 4 9 ∷ submit 1 2 4 1 3 9 ∷ submit 2 3 2 1 9 9 ∷ []) (at 1 0 4 ∷ at 1 4 7 ∷ at 5 0 9 ∷ [])
-    ∷ case 6 1 (submit 0 1 4 1 4 9 ∷ submit 1 2 4 1 3 9 ∷ submit 2 3 2 1 4 4 ∷ []) (at 1 0 4 ∷ at 1 4 7 ∷ at 5 0 4 ∷ [])
-    -- beside one on columns 1–5: column 5 at tick 4 in common, and ticks that touch
-    ∷ case 6 1 (submit 0 1 4 1 4 9 ∷ submit 1 2 5 1 3 9 ∷ submit 2 3 2 1 5 5 ∷ submit 2 3 2 1 4 4 ∷ []) (at 1 0 4 ∷ at 1 4 7 ∷ only 10 ∷ at 5 0 4 ∷ [])
-    -- beside one to the right, on columns 3–4 from tick 4 to 7: column 3 at tick 4 in common, ticks that touch, columns that touch
-    ∷ beside (submit 2 7 3 1 4 5 ∷ submit 2 7 3 1 3 4 ∷ []) (only 10 ∷ at 1 1 4 ∷ [])
-    ∷ beside (submit 2 7 2 1 9 10 ∷ []) (at 1 1 10 ∷ [])
     -- rows are rows: a height over W but within H, before and after the clock
     ∷ case 1 2 (submit 0 1 1 2 1 9 ∷ clock 0 ∷ submit 0 2 1 3 1 9 ∷ clock 1 ∷ submit 0 2 1 2 1 9 ∷ []) (at 1 0 1 ∷ only 0 ∷ only 5 ∷ only 0 ∷ at 1 1 2 ∷ [])
     -- clock: 11 below now, 12 above 2,000,000,000, and the clock can go as far as that

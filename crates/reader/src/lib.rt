@@ -1,4 +1,6 @@
 // A recording that comes in pieces: one reader for every program. A piece may end inside a record; the begin of it is held.
+#![tactic(auto)]
+
 ghost use Rattle.std.specs.Prelude.{◌≡◌, cond, ◌++◌, ◌+◌, ◌-◌, ◌*◌, ◌≤◌, min, ltb, eqb, length, take, drop};
 ghost use Rattle.lists.specs.Lists.{over_front};
 ghost use Rattle.session.specs.declared.Ending.TheVariants.{NotYet, AtLast, PastLast};

@@ -1,4 +1,6 @@
 // Where a summary stops: the end of its last line, and the message.
+#![tactic(auto)]
+
 ghost use Rattle.std.specs.Prelude.{◌++◌, suc, ◌+◌, ◌≤◌, length};
 ghost use Rattle.text.specs.Digits.{Put};
 ghost use Rattle.stops.specs.Stops.{stopped_at, stop_words, stop_message, stop_said, progress_text};

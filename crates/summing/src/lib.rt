@@ -1,4 +1,6 @@
 // The summary that `summary` writes: a machine that is fed recordings piece by piece, one file after the other.
+#![tactic(auto)]
+
 ghost use Rattle.std.specs.Prelude.{◌≡◌, [], suc, ◌-◌, ◌*◌, ◌≤◌, length, get_or};
 ghost use Rattle.lists.specs.Lists.{over_front};
 ghost use Rattle.batches.specs.Batches.{name_of};

@@ -1,4 +1,6 @@
 // Lines of a recording with the ids of their events and the answers in words: `plan --words`.
+#![tactic(auto)]
+
 ghost use Rattle.std.specs.Prelude.{◌≡◌, [], ◌∷◌, ◌++◌, ◌+◌, ◌*◌, ◌≤◌, length, get_or, take, drop};
 ghost use Rattle.lists.specs.Lists.{over_front};
 ghost use Rattle.text.specs.Digits.{Put};

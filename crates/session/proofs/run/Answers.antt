@@ -99,8 +99,8 @@ loop-n-preserved-in-Nothing c =
     Running a.state a.number c.room-most.result a.bytes.now a.answers.now c.put_line.new.answers next
     c.answered-r.new.live c.answered-r.new.masks c.answered-r.result.brief c.loop-n.turns
     (c.loop-n.at + c.next-e.result.size) (c.loop-n.n + 1) in
-    let more : (next : List Task) → next ≡ changed c.answered-r.result.change c.loop-n.tasks → length next ≡ 64 → More next = λ next c z. run_more c.loop-n.invariant c.loop-n-test.true c.next-e.ensures whole
-    c.answered-r.ensures c.kind_of.ensures c.put_line.ensures c z in
+    let more : (next : List Task) → next ≡ changed c.answered-r.result.change c.loop-n.tasks → length next ≡ 64 → More next = λ next e z. run_more c.loop-n.invariant c.loop-n-test.true c.next-e.ensures whole
+    c.answered-r.ensures c.kind_of.ensures c.put_line.ensures e z in
     more _ (changed-nothing _ c.in-Nothing.is) c.loop-n.invariant.size
 
 pub offset_bounds-tasks-slot : goal.offset_bounds-tasks-slot
@@ -123,8 +123,8 @@ loop-n-preserved-in-Booked c =
     Running a.state a.number c.room-most.result a.bytes.now a.answers.now c.put_line.new.answers next
     c.answered-r.new.live c.answered-r.new.masks c.answered-r.result.brief c.loop-n.turns
     (c.loop-n.at + c.next-e.result.size) (c.loop-n.n + 1) in
-    let more : (next : List Task) → next ≡ changed c.answered-r.result.change c.loop-n.tasks → length next ≡ 64 → More next = λ next c z. run_more c.loop-n.invariant c.loop-n-test.true c.next-e.ensures whole
-    c.answered-r.ensures c.kind_of.ensures c.put_line.ensures c z in
+    let more : (next : List Task) → next ≡ changed c.answered-r.result.change c.loop-n.tasks → length next ≡ 64 → More next = λ next e z. run_more c.loop-n.invariant c.loop-n-test.true c.next-e.ensures whole
+    c.answered-r.ensures c.kind_of.ensures c.put_line.ensures e z in
     more _ (changed-booked _ c.in-Booked.is) (simp length-set c.loop-n.invariant.size)
 
 pub offset_bounds-tasks-slot-in-Freed : goal.offset_bounds-tasks-slot-in-Freed
@@ -147,8 +147,8 @@ loop-n-preserved-in-Freed c =
     Running a.state a.number c.room-most.result a.bytes.now a.answers.now c.put_line.new.answers next
     c.answered-r.new.live c.answered-r.new.masks c.answered-r.result.brief c.loop-n.turns
     (c.loop-n.at + c.next-e.result.size) (c.loop-n.n + 1) in
-    let more : (next : List Task) → next ≡ changed c.answered-r.result.change c.loop-n.tasks → length next ≡ 64 → More next = λ next c z. run_more c.loop-n.invariant c.loop-n-test.true c.next-e.ensures whole
-    c.answered-r.ensures c.kind_of.ensures c.put_line.ensures c z in
+    let more : (next : List Task) → next ≡ changed c.answered-r.result.change c.loop-n.tasks → length next ≡ 64 → More next = λ next e z. run_more c.loop-n.invariant c.loop-n-test.true c.next-e.ensures whole
+    c.answered-r.ensures c.kind_of.ensures c.put_line.ensures e z in
     more _ (changed-freed _ c.in-Freed.is c.free_slot.ensures) (simp length-set c.loop-n.invariant.size)
 
 pub loop-n-smaller : goal.loop-n-smaller
@@ -161,8 +161,8 @@ loop-n-preserved c =
     Running a.state a.number c.room-most.result a.bytes.now a.answers.now c.put_line.new.answers next
     c.answered-r.new.live c.answered-r.new.masks c.answered-r.result.brief c.loop-n.turns
     (c.loop-n.at + c.next-e.result.size) (c.loop-n.n + 1) in
-    let more : (next : List Task) → next ≡ changed c.answered-r.result.change c.loop-n.tasks → length next ≡ 64 → More next = λ next c z. run_more c.loop-n.invariant c.loop-n-test.true c.next-e.ensures whole
-    c.answered-r.ensures c.kind_of.ensures c.put_line.ensures c z in
+    let more : (next : List Task) → next ≡ changed c.answered-r.result.change c.loop-n.tasks → length next ≡ 64 → More next = λ next e z. run_more c.loop-n.invariant c.loop-n-test.true c.next-e.ensures whole
+    c.answered-r.ensures c.kind_of.ensures c.put_line.ensures e z in
     more _ (changed-cleared _ c.in-Cleared.is c.free_slot-free.ensures) refl
 
 pub shape_of-answers : goal.shape_of-answers
