@@ -1,4 +1,6 @@
 // What `ask` makes of what its arguments have told: it shows its manual, or it answers a question.
+#![tactic(auto)]
+
 ghost use Rattle.std.specs.Prelude.{◌≡◌};
 ghost use Rattle.questions.specs.Questions.{asks};
 ghost use Rattle.ask_text.specs.AskText.{wrong?, question_in, shows_manual};

@@ -74,8 +74,10 @@ pub whole-sooner : (n k : ℕ) (fs : List File) → k ≤ n → Whole n fs → W
 unfolding Whole
 whole-sooner n k [] h w = tt
 whole-sooner n k (f ∷ fs) h w =
-    let s = sooner n k f h w.0 in
-    (ap whole? s.1 ∙ w.0, whole-sooner _ _ fs (omega (arith, h, ap length s.0)) w.1)
+    let s = sooner n k f h w.0 in (
+      ap whole? s.1 ∙ w.0,
+      whole-sooner (n + length (story_of n f.bytes).events) (k + length (story_of k f.bytes).events) fs (omega (arith, h, ap length s.0)) w.1,
+    )
 
 -- WHAT THE SUMMARY OF SUCH FILES IS
 whole_sum : (n : ℕ) (fs : List File) → Whole n fs → sum_from n fs ≡ record { trials = trials_of fs; files = length fs; words = ascii "end\n"; said = [] }

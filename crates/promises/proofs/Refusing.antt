@@ -57,6 +57,7 @@ fails {s} d f = is_false s.holds (not_T s.holds (λ t. f (d.to t)))
 -- THE FIRST ROW THAT HOLDS GIVES THE REFUSAL
 pub first-refusal : {ts : List Test} {rows : List Row} {k : ℕ} → Decides ts rows → First rows k → refusal ts ≡ k
 unfolding refusal
+first-refusal {k = k} end h = elim h [ ]
 first-refusal (row {s} d ds) (this h) = rw (is_true s.holds (d.back h)) d.number
 first-refusal (row d ds) (later f h) = rw (fails d f) (first-refusal ds h)
 
@@ -79,6 +80,7 @@ refusal-first (row {s} {r} {ts} {rows} d ds) = by s.holds refl (refusal-first ds
 
 -- a number of a row is not 0
 pub first_some : {ts : List Test} {rows : List Row} {k : ℕ} → Decides ts rows → First rows k → 0 < k
+first_some {k = k} end h = elim h [ ]
 first_some (row d ds) (this h) = d.some
 first_some (row d ds) (later f h) = first_some ds h
 
@@ -90,6 +92,7 @@ first-once (later f h) (this g) = absurd (f g)
 first-once (later f h) (later e g) = first-once h g
 
 pub clear_first : {rows : List Row} {k : ℕ} → Clear rows → First rows k → ⊥
+clear_first {k = k} empty h = elim h [ ]
 clear_first (next f c) (this g) = f g
 clear_first (next f c) (later e g) = clear_first c g
 
@@ -113,6 +116,7 @@ first-lowest z (this h) (here g) = omega arith
 first-lowest z (this {r} {rows} h) (there g) = over rows (and_l (all? (ltb r.number) (numbers rows)) (pairwise? ltb (numbers rows)) z) g
   where
     over : (rows : List Row) {j : ℕ} → T (all? (ltb r.number) (numbers rows)) → Holding rows j → r.number ≤ j
+    over [] a h = elim h [ ]
     over (y ∷ rows) a (here g) =
         let l = ltb→lt r.number y.number (and_l (ltb r.number y.number) (all? (ltb r.number) (numbers rows)) a) in
         omega arith

@@ -82,7 +82,7 @@ promise-stays s ks (Withdraw n) k m = go (withdrawn s.board n).number refl
 pub promise-after : (c : Account) (vs : List Event) (k : Task) → k ∈ c.promises → (k ∈ (account_after c vs).promises) ⊎ EndsIn k c.state vs
 unfolding account_after
 promise-after c [] k m = inl m
-promise-after c (v ∷ vs) k m = go (λ x. promise-after _ vs k x) (promise-stays c.state c.promises v k m)
+promise-after c (v ∷ vs) k m = go (λ x. promise-after next vs k x) (promise-stays c.state c.promises v k m)
   where
     next : Account
     next = record { state = (outcome c.state v).state; promises = ledger_after c.state c.promises v }
@@ -114,7 +114,7 @@ code-kept κs a r z e ks h o k m = kept (account a.0 ks) _ k m r.state.board (co
 account-on : (c : Account) (us vs : List Event) → account_after c (us ++ vs) ≡ account_after (account_after c us) vs
 unfolding account_after
 account-on c [] vs = refl
-account-on c (u ∷ us) vs = account-on _ us vs
+account-on c (u ∷ us) vs = account-on (record { state = (outcome c.state u).state; promises = ledger_after c.state c.promises u }) us vs
 
 -- A PROMISE OF A RECORDING OF BYTES, from the board of zeros: the events us have made it, and vs come after them; one of vs ends it, or it stands
 pub promise-kept : (bytes : List ℕ) → Bytes bytes → (us vs ws : List Event) → (story bytes).events ≡ (us ++ vs) ++ ws → (k : Task)
