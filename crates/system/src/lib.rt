@@ -2,7 +2,8 @@
 // lines and the C library's are what is trusted (docs/PROMISES.md, What is trusted).
 #![tactic(auto)]
 
-ghost use Rattle.std.specs.Prelude.{◌≡◌, ◌+◌, ◌≤◌, ◌<◌, length, IfOk};
+ghost use Rattle.std.specs.Prelude.{◌≡◌, ◌+◌, ◌≤◌, ◌<◌, length, IfOk, IfErr};
+ghost use Rattle.std.specs.IoError.{error_kind};
 
 use arguments::Asked;
 use batches::{Batch, Name};
@@ -281,17 +282,23 @@ pub fn shut(input: Input) {
 
 // Why a write failed, if it did. An `Err` where nobody reads what is written: the runtime keeps the system's signal away, which
 // would have ended the program there.
-fn failure(written: io::Result<()>) -> io::Result<Option<Error>> {
+fn failure(written: io::Result<()>) -> io::Result<Option<Error>>
+    ensures { IfErr result (λ e. error_kind e ≡ ErrorKind.BrokenPipe) }
+{
     match written {
         Ok(()) => Ok(None),
-        Err(e) if e.kind() == ErrorKind::BrokenPipe => Err(e),
-        Err(e) => Ok(Some(e)),
+        Err(e) => match e.kind() {
+            ErrorKind::BrokenPipe => Err(e),
+            _ => Ok(Some(e)),
+        },
     }
 }
 
 // Writes to standard output and standard error; where that fails, standard error says so, and there is nothing to go on with. An
 // `Err` where nobody reads what is written: nothing more is, and the program is to end (`status`).
-pub fn write(rt: &HostRuntime, program: &[u8], out: &[u8], err: &[u8]) -> io::Result<bool> {
+pub fn write(rt: &HostRuntime, program: &[u8], out: &[u8], err: &[u8]) -> io::Result<bool>
+    ensures { IfErr result (λ e. error_kind e ≡ ErrorKind.BrokenPipe) }
+{
     let told = failure(Print::write_all(&rt.stdout(), out))?;
     let said = failure(Print::write_all(&rt.stderr(), err))?;
     match told.or(said) {
@@ -304,7 +311,9 @@ pub fn write(rt: &HostRuntime, program: &[u8], out: &[u8], err: &[u8]) -> io::Re
 }
 
 // A manual that was asked for goes to standard output, a usage to standard error.
-pub fn tell(rt: &HostRuntime, program: &[u8], asked: bool, manual: &[u8]) -> io::Result<bool> {
+pub fn tell(rt: &HostRuntime, program: &[u8], asked: bool, manual: &[u8]) -> io::Result<bool>
+    ensures { IfErr result (λ e. error_kind e ≡ ErrorKind.BrokenPipe) }
+{
     if asked {
         return write(rt, program, manual, b"");
     }
