@@ -1,10 +1,13 @@
 // The benchmark (tests/time/bench.sh): sessions drawn by a small generator. A line of standard input is nine bytes: a digit for the
 // planner (for workloads 3, 5, 6 and 7 the board), one for the workload, six for the number of rounds, and the end of the line.
 // Each is answered by a checksum.
+#![tactic(auto)]
+
 ghost use Rattle.std.specs.Prelude.{◌≤◌};
 
 use board::{Answer, Board};
-use libc::{STDIN_FILENO, STDOUT_FILENO};
+use std::io;
+use std::io::Read;
 use tasks::Submission;
 
 // What a session draws from: the least and how much more it may be.
@@ -439,27 +442,26 @@ fn more(x: u32, byte: u8) -> u32 {
 }
 
 // One line read and answered; false where there is none.
-fn answered() -> bool {
+fn answered(rt: &impl Print, lines: &mut impl Read) -> io::Result<bool> {
     let mut line = [0u8; 9];
-    if io::read_full(STDIN_FILENO, &mut line) < 9 {
-        return false;
+    if lines.read_exact(&mut line).is_err() {
+        return Ok(false);
     }
     let planner = digit(line[0]);
     let workload = digit(line[1]);
     let thousands = more(more(more(0, line[2]), line[3]), line[4]);
     let rounds = more(more(more(thousands, line[5]), line[6]), line[7]);
-    io::print_decimal(STDOUT_FILENO, planner as u64);
-    io::write_all(STDOUT_FILENO, b" ");
-    io::print_decimal(STDOUT_FILENO, workload as u64);
-    io::write_all(STDOUT_FILENO, b" ");
-    io::print_decimal(STDOUT_FILENO, run(planner, workload, rounds));
-    io::write_all(STDOUT_FILENO, b"\n");
-    true
+    let sum = run(planner, workload, rounds);
+    println!(rt; "{planner} {workload} {sum}")?;
+    Ok(true)
 }
 
-fn main() {
-    let mut turns: u32 = 1000;
-    while turns > 0 && answered() {
-        turns -= 1;
+fn main(rt: HostRuntime) -> io::Result<()> {
+    let mut lines = rt.stdin();
+    for _ in 0..1000 {
+        if !answered(&rt, &mut lines)? {
+            break;
+        }
     }
+    Ok(())
 }

@@ -1,5 +1,7 @@
 // The demonstration: the seven tasks of Table 1 of source document 003, played on its device of 10 x 6 under each planner, with a
 // picture of what each did.
+#![tactic(auto)]
+
 ghost use Rattle.std.specs.Prelude.{◌≡◌, ◌+◌, ◌≤◌, length};
 ghost use Rattle.std.proofs.lemmas.List.Edits.{sets};
 ghost use Rattle.lists.specs.Lists.{index_of};
@@ -7,34 +9,19 @@ ghost use Rattle.tasks.specs.Tasks.{holds};
 ghost use Rattle.demo.specs.Picture.{mark, across};
 
 use board::{Answer, Board};
-use libc::STDOUT_FILENO;
+use std::io;
 use tasks::{Submission, Task};
 
-fn show(x: u32) {
-    io::print_decimal(STDOUT_FILENO, x as u64);
-}
-
 // A place as document 01 writes it: column, start.
-fn show_answer(answer: Answer) {
+fn show_answer(rt: &impl Print, answer: Answer) -> io::Result<()> {
     match answer {
         Answer::Placed {
             column,
             start,
             finish: _,
-        } => {
-            io::write_all(STDOUT_FILENO, b" (");
-            show(column as u32);
-            io::write_all(STDOUT_FILENO, b",");
-            show(start);
-            io::write_all(STDOUT_FILENO, b")");
-        }
-        Answer::Rejected => {
-            io::write_all(STDOUT_FILENO, b" rejected");
-        }
-        Answer::Refused(number) => {
-            io::write_all(STDOUT_FILENO, b" refused ");
-            show(number as u32);
-        }
+        } => print!(rt; " ({column},{start})"),
+        Answer::Rejected => print!(rt; " rejected"),
+        Answer::Refused(number) => print!(rt; " refused {number}"),
     }
 }
 
@@ -58,7 +45,7 @@ struct Move {
 }
 
 // The clock to a task's arrival, and the task to a planner.
-fn played(board: Board, planner: u8, id: u32, row: [u32; 5]) -> Move {
+fn played(rt: &impl Print, board: Board, planner: u8, id: u32, row: [u32; 5]) -> io::Result<Move> {
     let c = board.clock(row[0]);
     let moved = c.board;
     let a = Submission {
@@ -70,26 +57,26 @@ fn played(board: Board, planner: u8, id: u32, row: [u32; 5]) -> Move {
     };
     let r = moved.submit(planner, a);
     let answer = r.answer;
-    show_answer(answer);
+    show_answer(rt, answer)?;
     let after = r.board;
-    Move {
+    Ok(Move {
         board: after,
         task: placed(answer, row[0], a),
-    }
+    })
 }
 
 // The seven tasks under a planner, as they were placed.
-fn play(planner: u8) -> [Task; 7] {
+fn play(rt: &impl Print, planner: u8) -> io::Result<[Task; 7]> {
     let rows = table1::rows();
     let made = Board::new(10, 6);
-    let p1 = played(made.board, planner, 1, rows[0]);
-    let p2 = played(p1.board, planner, 2, rows[1]);
-    let p3 = played(p2.board, planner, 3, rows[2]);
-    let p4 = played(p3.board, planner, 4, rows[3]);
-    let p5 = played(p4.board, planner, 5, rows[4]);
-    let p6 = played(p5.board, planner, 6, rows[5]);
-    let p7 = played(p6.board, planner, 7, rows[6]);
-    io::write_all(STDOUT_FILENO, b"\n");
+    let p1 = played(rt, made.board, planner, 1, rows[0])?;
+    let p2 = played(rt, p1.board, planner, 2, rows[1])?;
+    let p3 = played(rt, p2.board, planner, 3, rows[2])?;
+    let p4 = played(rt, p3.board, planner, 4, rows[3])?;
+    let p5 = played(rt, p4.board, planner, 5, rows[4])?;
+    let p6 = played(rt, p5.board, planner, 6, rows[5])?;
+    let p7 = played(rt, p6.board, planner, 7, rows[6])?;
+    println!(rt)?;
     let t1 = p1.task;
     let t2 = p2.task;
     let t3 = p3.task;
@@ -97,7 +84,7 @@ fn play(planner: u8) -> [Task; 7] {
     let t5 = p5.task;
     let t6 = p6.task;
     let t7 = p7.task;
-    [t1, t2, t3, t4, t5, t6, t7]
+    Ok([t1, t2, t3, t4, t5, t6, t7])
 }
 
 // Whether a task holds a column at a tick.
@@ -146,72 +133,56 @@ fn put_across(line: &mut [u8], at: usize, tasks: [Task; 7], tick: u32)
 
 // A tick of the four pictures, side by side.
 fn show_tick(
+    rt: &impl Print,
     tick: u32,
     reference: [Task; 7],
     horizon: [Task; 7],
     stuffing: [Task; 7],
     full: [Task; 7],
-) {
+) -> io::Result<()> {
     let mut line = [b' '; 47];
     put_across(&mut line, 0, reference, tick);
     put_across(&mut line, 12, horizon, tick);
     put_across(&mut line, 24, stuffing, tick);
     put_across(&mut line, 36, full, tick);
     line[46] = b'\n';
-    if tick < 10 {
-        io::write_all(STDOUT_FILENO, b" ");
-    }
-    io::write_all(STDOUT_FILENO, b"  ");
-    show(tick);
-    io::write_all(STDOUT_FILENO, b"  ");
-    io::write_all(STDOUT_FILENO, &line);
+    print!(rt; "  {tick:>2}  ")?;
+    rt.write_all(&line)
 }
 
 // Tick 0 to 20, where the last task ends.
-fn show_pictures(reference: [Task; 7], horizon: [Task; 7], stuffing: [Task; 7], full: [Task; 7]) {
-    let mut tick: u32 = 0;
-    while tick <= 20 {
-        show_tick(tick, reference, horizon, stuffing, full);
-        tick += 1;
+fn show_pictures(
+    rt: &impl Print,
+    reference: [Task; 7],
+    horizon: [Task; 7],
+    stuffing: [Task; 7],
+    full: [Task; 7],
+) -> io::Result<()> {
+    for tick in 0..21 {
+        show_tick(rt, tick, reference, horizon, stuffing, full)?;
     }
+    Ok(())
 }
 
-fn main() {
-    io::write_all(
-        STDOUT_FILENO,
-        b"Table 1 on 10 x 6: column, start of tasks 1 to 7, as planned here and as document 01 has it\n",
-    );
-    io::write_all(STDOUT_FILENO, b"reference  here:");
-    let reference = play(0);
-    io::write_all(
-        STDOUT_FILENO,
-        b"           01:   (1,0) (4,0) rejected rejected rejected rejected (4,3)\n",
-    );
-    io::write_all(STDOUT_FILENO, b"horizon    here:");
-    let horizon = play(1);
-    io::write_all(
-        STDOUT_FILENO,
-        b"           01:   (1,0) (4,0) (4,3) (7,3) (7,6) (4,15) (4,18)\n",
-    );
-    io::write_all(STDOUT_FILENO, b"stuffing   here:");
-    let stuffing = play(2);
-    io::write_all(
-        STDOUT_FILENO,
-        b"           01:   (1,0) (4,0) (4,3) (7,3) (7,6) (4,15) (7,8)\n",
-    );
-    io::write_all(STDOUT_FILENO, b"full       here:");
-    let full = play(3);
-    io::write_all(
-        STDOUT_FILENO,
-        b"           01:   (1,0) (4,0) (4,3) (7,3) (7,6) (4,15) (7,8)\n",
-    );
-    io::write_all(
-        STDOUT_FILENO,
-        b"\nWhat each planner did: columns 1 to 10 across, time down; the number of the task that holds the column, a dot where it is free\n",
-    );
-    io::write_all(
-        STDOUT_FILENO,
-        b"tick  reference   horizon     stuffing    full\n",
-    );
-    show_pictures(reference, horizon, stuffing, full);
+fn main(rt: HostRuntime) -> io::Result<()> {
+    println!(rt;
+        "Table 1 on 10 x 6: column, start of tasks 1 to 7, as planned here and as document 01 has it"
+    )?;
+    print!(rt; "reference  here:")?;
+    let reference = play(&rt, 0)?;
+    println!(rt; "           01:   (1,0) (4,0) rejected rejected rejected rejected (4,3)")?;
+    print!(rt; "horizon    here:")?;
+    let horizon = play(&rt, 1)?;
+    println!(rt; "           01:   (1,0) (4,0) (4,3) (7,3) (7,6) (4,15) (4,18)")?;
+    print!(rt; "stuffing   here:")?;
+    let stuffing = play(&rt, 2)?;
+    println!(rt; "           01:   (1,0) (4,0) (4,3) (7,3) (7,6) (4,15) (7,8)")?;
+    print!(rt; "full       here:")?;
+    let full = play(&rt, 3)?;
+    println!(rt; "           01:   (1,0) (4,0) (4,3) (7,3) (7,6) (4,15) (7,8)")?;
+    println!(rt;
+        "\nWhat each planner did: columns 1 to 10 across, time down; the number of the task that holds the column, a dot where it is free"
+    )?;
+    println!(rt; "tick  reference   horizon     stuffing    full")?;
+    show_pictures(&rt, reference, horizon, stuffing, full)
 }

@@ -1,81 +1,102 @@
 // What the system brings and takes: arguments, pieces of the input, writes. Nothing is promised of what it does with them; these
 // lines and the C library's are what is trusted (docs/PROMISES.md, What is trusted).
-ghost use Rattle.std.specs.Prelude.{◌≡◌, ◌+◌, ◌≤◌, ◌<◌, length};
+#![tactic(auto)]
+
+ghost use Rattle.std.specs.Prelude.{◌≡◌, ◌+◌, ◌≤◌, ◌<◌, length, IfOk, IfErr};
+ghost use Rattle.std.specs.IoError.{error_kind};
 
 use arguments::Asked;
 use batches::{Batch, Name};
-use libc::{STDERR_FILENO, STDIN_FILENO, STDOUT_FILENO};
 use orders::Order;
+use std::env::{Env, FillError};
+use std::fs::{File, OpenOptions};
+use std::io::{Error, ErrorKind, IsTerminal, Print, Read, Write};
+use std::os::unix::fs::FileTypeExt;
+use std::process::ExitCode;
+use std::time::{CpuClock, Duration};
+use std::{fs, io, str};
+
+// Zeros, which hold an argument or any path.
+pub fn page() -> [u8; 4096]
+    ensures { 4096 ≡ length result }
+{
+    [0; 4096]
+}
+
+// Zeros, which hold a piece of the input or what comes of it.
+pub fn large_page() -> [u8; 65536]
+    ensures { 65536 ≡ length result }
+{
+    [0; 65536]
+}
 
 // One argument more.
-fn argued(order: Order, wordy: bool, i: usize) -> Order {
-    let mut argument = io::buffer();
-    let n = os::arg(i, &mut argument);
-    if os::errno() != 0 {
-        return orders::refuse(order);
+fn argued(rt: &impl Env, order: Order, wordy: bool, i: usize) -> Order {
+    let mut argument = page();
+    match rt.arg(i, &mut argument) {
+        Ok(n) => orders::take(order, wordy, i, &argument[..n]),
+        Err(_) => orders::refuse(order),
     }
-    orders::take(order, wordy, i, &argument[0..n])
 }
 
 // What the arguments tell, the program's own name not among them.
-pub fn ordered(wordy: bool) -> Order {
-    let count = os::arg_count();
+pub fn ordered(rt: &impl Env, wordy: bool) -> Order {
     let mut order = orders::no_order();
-    let mut i: usize = 1;
-    while i < count {
-        order = argued(order, wordy, i);
-        i += 1;
+    for i in 1..arguments(rt) {
+        order = argued(rt, order, wordy, i);
     }
     order
 }
 
 // One argument of `ask` more.
-fn asked_more(a: Asked, i: usize, text: &mut [u8]) -> Asked {
-    let mut argument = io::buffer();
-    let n = os::arg(i, &mut argument);
-    if os::errno() != 0 {
-        return arguments::refuse(a);
+fn asked_more(rt: &impl Env, a: Asked, i: usize, text: &mut [u8]) -> Asked {
+    let mut argument = page();
+    match rt.arg(i, &mut argument) {
+        Ok(n) => arguments::take(a, i, &argument[..n], text),
+        Err(_) => arguments::refuse(a),
     }
-    arguments::take(a, i, &argument[0..n], text)
 }
 
 // What the arguments of `ask` tell; the words of its question stand in the lent text.
-pub fn asked(text: &mut [u8]) -> Asked {
-    let count = os::arg_count();
+pub fn asked(rt: &impl Env, text: &mut [u8]) -> Asked {
     let mut a = arguments::no_asked();
-    let mut i: usize = 1;
-    while i < count {
-        a = asked_more(a, i, text);
-        i += 1;
+    for i in 1..arguments(rt) {
+        a = asked_more(rt, a, i, text);
     }
     a
 }
 
 // One argument of `summary` more.
-fn batched_more(b: Batch, i: usize) -> Batch {
-    let mut argument = io::buffer();
-    let n = os::arg(i, &mut argument);
-    if os::errno() != 0 {
-        return batches::refuse(b);
+fn batched_more(rt: &impl Env, b: Batch, i: usize) -> Batch {
+    let mut argument = page();
+    match rt.arg(i, &mut argument) {
+        Ok(n) => batches::take(b, &argument[..n]),
+        Err(_) => batches::refuse(b),
     }
-    batches::take(b, &argument[0..n])
 }
 
 // What the arguments of `summary` tell.
-pub fn batched() -> Batch {
-    let count = os::arg_count();
+pub fn batched(rt: &impl Env) -> Batch {
     let mut b = batches::no_batch();
-    let mut i: usize = 1;
-    while i < count {
-        b = batched_more(b, i);
-        i += 1;
+    for i in 1..arguments(rt) {
+        b = batched_more(rt, b, i);
     }
     b
 }
 
+// Whether there is such an argument: one that is longer than a page is one.
+fn is_given(rt: &impl Env, i: usize) -> bool {
+    !matches!(rt.arg(i, &mut []), Err(FillError::NotPresent))
+}
+
 // How many arguments there are, the program's own name among them.
-pub fn arguments() -> usize {
-    os::arg_count()
+pub fn arguments(rt: &impl Env) -> usize {
+    for i in 0..usize::MAX {
+        if !is_given(rt, i) {
+            return i;
+        }
+    }
+    usize::MAX
 }
 
 // The argument after one.
@@ -83,88 +104,165 @@ pub fn after(file: usize) -> usize {
     if file < usize::MAX { file + 1 } else { file }
 }
 
+// Puts an argument at the front of a page; how many bytes it has, 0 where it is not there or there is no room for it.
+fn put_argument(rt: &impl Env, i: usize, bytes: &mut [u8]) -> usize
+    ensures { result ≤ length bytes.new }
+{
+    rt.arg(i, bytes).unwrap_or(0)
+}
+
 // The name that an argument names a file by, of no byte where it names none; standard input's for 0.
-pub fn name_of(file: usize) -> Name
+pub fn name_of(rt: &impl Env, file: usize) -> Name
     ensures { (result.size ≤ 4096) × (length result.bytes ≡ 4096) }
 {
-    let mut bytes = io::buffer();
+    let mut bytes = page();
     if file == 0 {
         bytes[0] = b'-';
-        return Name {
-            bytes: bytes,
-            size: 1,
-        };
+        return Name { bytes, size: 1 };
     }
-    let n = os::arg(file, &mut bytes);
-    let mut size = n;
-    if orders::is_option(&bytes[0..n]) {
-        size = 0;
-    }
-    Name {
-        bytes: bytes,
-        size: size,
-    }
+    let n = put_argument(rt, file, &mut bytes);
+    let size = if orders::is_option(&bytes[..n]) { 0 } else { n };
+    Name { bytes, size }
+}
+
+// Where the input comes from: nowhere where it could not be opened.
+#[derive(Drop)]
+pub enum Source {
+    Nowhere,
+    Standard,
+    Opened(File),
 }
 
 // Where a piece of the input stands: from `from` to `to` it is still to be taken. `more`: the input has not ended. `failed`: it
 // could not be opened, or not be read to its end.
-#[derive(Clone, Copy)]
+#[derive(Drop)]
 pub struct Input {
-    pub fd: i32,
+    pub source: Source,
     pub from: usize,
     pub to: usize,
     pub more: bool,
     pub failed: bool,
 }
 
-fn input_of(fd: i32) -> Input
+fn input_of(source: Source) -> Input
     ensures { (result.from ≡ 0) × (result.to ≡ 0) }
 {
+    let more = !matches!(&source, Source::Nowhere);
     Input {
-        fd: fd,
+        source,
         from: 0,
         to: 0,
-        more: 0 <= fd,
-        failed: fd < 0,
+        more,
+        failed: !more,
+    }
+}
+
+// What std writes behind the reason of an error of the system's.
+const NUMBER: &[u8] = b" (os error ";
+
+// How many bytes the reason takes, in a text in which its number follows.
+fn reason_size(text: &[u8]) -> usize
+    ensures { result ≤ length text.now }
+{
+    for i in 0..text.len() {
+        if text[i..].starts_with(NUMBER) {
+            return i;
+        }
+    }
+    text.len()
+}
+
+// The reason of an error at the front of a page; how many bytes it takes.
+fn put_reason(e: Error, out: &mut [u8]) -> usize
+    ensures { result ≤ length out.new }
+{
+    let mut rest = &mut *out;
+    let _ = write!(rest, "{e}");
+    let left = rest.len();
+    let used = out.len().saturating_sub(left);
+    reason_size(&out[..used])
+}
+
+// Says on standard error what failed, and why.
+fn fail(rt: &HostRuntime, program: &[u8], what: &[u8], e: Error) {
+    let mut reason = [0u8; 256];
+    let size = put_reason(e, &mut reason);
+    let stderr = rt.stderr();
+    let _ = Print::write_all(&stderr, program);
+    let _ = Print::write_all(&stderr, what);
+    let _ = Print::write_all(&stderr, b": ");
+    let _ = Print::write_all(&stderr, &reason[..size]);
+    let _ = Print::write_all(&stderr, b"\n");
+}
+
+// What the system answers where a name is not text: std opens no other.
+const NO_TEXT: i32 = 84;
+
+// What it answers where there is nothing to read from.
+const NO_SOURCE: i32 = 9;
+
+fn open_named(rt: &HostRuntime, path: &[u8]) -> io::Result<File> {
+    match str::from_utf8(path) {
+        Ok(name) => fs::open(rt, name),
+        Err(_) => Err(Error::from_raw_os_error(NO_TEXT)),
     }
 }
 
 // The file that an argument names, standard input where it is 0. Where it cannot be opened, standard error says why.
-pub fn open(program: &[u8], file: usize) -> Input
+pub fn open(rt: &HostRuntime, program: &[u8], file: usize) -> Input
     ensures { (result.from ≡ 0) × (result.to ≡ 0) }
 {
     if file == 0 {
-        return input_of(STDIN_FILENO);
+        return input_of(Source::Standard);
     }
-    let mut path = io::buffer();
-    let n = os::arg(file, &mut path);
-    let fd = os::open_read(&path[0..n]);
-    if fd < 0 {
-        io::write_all(STDERR_FILENO, program);
-        os::fail(&path[0..n]);
+    let mut path = page();
+    let n = put_argument(rt, file, &mut path);
+    match open_named(rt, &path[..n]) {
+        Ok(opened) => input_of(Source::Opened(opened)),
+        Err(e) => {
+            fail(rt, program, &path[..n], e);
+            input_of(Source::Nowhere)
+        }
     }
-    input_of(fd)
+}
+
+fn read_piece(rt: &HostRuntime, source: &mut Source, piece: &mut [u8]) -> io::Result<usize>
+    ensures { IfOk result (λ n. n ≤ length piece.new) }
+{
+    match source {
+        Source::Nowhere => Err(Error::from_raw_os_error(NO_SOURCE)),
+        Source::Standard => rt.stdin().read(piece),
+        Source::Opened(file) => file.read(piece),
+    }
 }
 
 // The next piece, where the last one has been taken. A read that fails is not the end.
-pub fn fill(input: Input, program: &[u8], piece: &mut [u8]) -> Input
+pub fn fill(rt: &HostRuntime, input: Input, program: &[u8], piece: &mut [u8]) -> Input
     requires { (input.from ≤ input.to) × (input.to ≤ length piece.old) }
     ensures { (result.from ≤ result.to) × (result.to ≤ length piece.old) }
 {
     if input.from < input.to {
         return input;
     }
-    let got = libc::read(input.fd, piece);
-    if got < 0 {
-        io::write_all(STDERR_FILENO, program);
-        os::fail(b"cannot read");
-    }
-    Input {
-        fd: input.fd,
-        from: 0,
-        to: io::count(got, piece),
-        more: 0 < got,
-        failed: got < 0,
+    let mut source = input.source;
+    match read_piece(rt, &mut source, piece) {
+        Ok(got) => Input {
+            source,
+            from: 0,
+            to: got,
+            more: 0 < got,
+            failed: false,
+        },
+        Err(e) => {
+            fail(rt, program, b"cannot read", e);
+            Input {
+                source,
+                from: 0,
+                to: 0,
+                more: false,
+                failed: true,
+            }
+        }
     }
 }
 
@@ -173,36 +271,64 @@ pub fn pass(input: Input, taken: usize) -> Input
     requires { input.from + taken ≤ input.to }
     ensures { (result.from ≤ result.to) × (result.to ≡ input.to) }
 {
-    Input {
-        fd: input.fd,
-        from: input.from + taken,
-        to: input.to,
-        more: input.more,
-        failed: input.failed,
-    }
+    let from = input.from + taken;
+    Input { from, ..input }
 }
 
 // The input is read no more. (Hundreds of files may follow.)
 pub fn shut(input: Input) {
-    libc::close(input.fd);
+    drop(input);
 }
 
-// Writes to standard output and standard error; where that fails, standard error says so, and there is nothing to go on with.
-pub fn write(program: &[u8], out: &[u8], err: &[u8]) -> bool {
-    let done = io::write_all(STDOUT_FILENO, out) & io::write_all(STDERR_FILENO, err);
-    if !done {
-        io::write_all(STDERR_FILENO, program);
-        os::fail(b"cannot write");
+// Why a write failed, if it did. An `Err` where nobody reads what is written: the runtime keeps the system's signal away, which
+// would have ended the program there.
+fn failure(written: io::Result<()>) -> io::Result<Option<Error>>
+    ensures { IfErr result (λ e. error_kind e ≡ ErrorKind.BrokenPipe) }
+{
+    match written {
+        Ok(()) => Ok(None),
+        Err(e) => match e.kind() {
+            ErrorKind::BrokenPipe => Err(e),
+            _ => Ok(Some(e)),
+        },
     }
-    done
+}
+
+// Writes to standard output and standard error; where that fails, standard error says so, and there is nothing to go on with. An
+// `Err` where nobody reads what is written: nothing more is, and the program is to end (`status`).
+pub fn write(rt: &HostRuntime, program: &[u8], out: &[u8], err: &[u8]) -> io::Result<bool>
+    ensures { IfErr result (λ e. error_kind e ≡ ErrorKind.BrokenPipe) }
+{
+    let told = failure(Print::write_all(&rt.stdout(), out))?;
+    let said = failure(Print::write_all(&rt.stderr(), err))?;
+    match told.or(said) {
+        None => Ok(true),
+        Some(e) => {
+            fail(rt, program, b"cannot write", e);
+            Ok(false)
+        }
+    }
 }
 
 // A manual that was asked for goes to standard output, a usage to standard error.
-pub fn tell(program: &[u8], asked: bool, manual: &[u8]) -> bool {
+pub fn tell(rt: &HostRuntime, program: &[u8], asked: bool, manual: &[u8]) -> io::Result<bool>
+    ensures { IfErr result (λ e. error_kind e ≡ ErrorKind.BrokenPipe) }
+{
     if asked {
-        return write(program, manual, b"");
+        return write(rt, program, manual, b"");
     }
-    write(program, b"", manual)
+    write(rt, program, b"", manual)
+}
+
+// What a shell shows of a program that the system's signal ended since nobody read what it wrote.
+const UNREAD: u8 = 141;
+
+// With what a program ends.
+pub fn status(ended: io::Result<()>) -> ExitCode {
+    match ended {
+        Ok(()) => ExitCode::SUCCESS,
+        Err(_) => ExitCode::from(UNREAD),
+    }
 }
 
 // A loop has to end, and nothing says that the input does: the turns that are left, 0 where there is no more.
@@ -214,46 +340,78 @@ pub fn turns_left(more: bool, turns: u64) -> u64
 }
 
 // Where `./run` hands on the terminal of its standard error, whose place it takes to see whether anything is written there.
-const TERMINAL_FILENO: i32 = 9;
+const HANDED: &str = "/dev/fd/9";
+
+// A terminal that may be told how far a program is.
+#[derive(Drop)]
+pub enum Terminal {
+    Absent,
+    Standard,
+    Handed(File),
+}
 
 // When the terminal was last told how far it is: by the quarter of a second of the processor's time. Only a terminal is told.
-#[derive(Clone, Copy)]
+#[derive(Drop)]
 pub struct Pace {
     pub shows: bool,
     pub due: bool,
-    pub quarter: i64,
-    pub fd: i32,
+    pub quarter: u64,
+    pub terminal: Terminal,
 }
 
-fn pace_on(fd: i32) -> Pace {
+// The file under the number 9, where that is a terminal. Nothing else is opened.
+fn handed(rt: &HostRuntime) -> io::Result<Option<File>> {
+    if !fs::metadata(rt, HANDED)?.file_type().is_char_device() {
+        return Ok(None);
+    }
+    let file = OpenOptions::new().write(true).open(rt, HANDED)?;
+    if file.is_terminal() {
+        Ok(Some(file))
+    } else {
+        Ok(None)
+    }
+}
+
+fn told_terminal(rt: &HostRuntime) -> Terminal {
+    if rt.stderr().is_terminal() {
+        return Terminal::Standard;
+    }
+    match handed(rt) {
+        Ok(Some(file)) => Terminal::Handed(file),
+        _ => Terminal::Absent,
+    }
+}
+
+pub fn first_pace(rt: &HostRuntime) -> Pace {
+    let terminal = told_terminal(rt);
     Pace {
-        shows: libc::isatty(fd) == 1,
+        shows: !matches!(&terminal, Terminal::Absent),
         due: false,
         quarter: 0,
-        fd: fd,
+        terminal,
     }
 }
 
-pub fn first_pace() -> Pace {
-    let pace = pace_on(STDERR_FILENO);
-    if pace.shows {
-        return pace;
-    }
-    pace_on(TERMINAL_FILENO)
+// How often 2^18 microseconds have passed.
+fn quarters(time: Duration) -> u64 {
+    let micros = u64::from(time.subsec_micros());
+    time.as_secs()
+        .saturating_mul(1_000_000)
+        .saturating_add(micros)
+        >> 18
 }
 
 // Whether a quarter of a second has passed: 2^18 microseconds.
-pub fn tick(p: Pace) -> Pace {
+pub fn tick(rt: &impl CpuClock, p: Pace) -> Pace {
     if !p.shows {
         return p;
     }
-    let quarter = libc::clock() >> 18;
-    Pace {
-        shows: true,
-        due: quarter != p.quarter,
-        quarter: quarter,
-        fd: p.fd,
-    }
+    let quarter = match rt.process_cpu_time() {
+        Ok(time) => quarters(time),
+        Err(_) => p.quarter,
+    };
+    let due = quarter != p.quarter;
+    Pace { due, quarter, ..p }
 }
 
 // What `summary` says before a message about a file: `summary: FILE: `.
@@ -286,9 +444,21 @@ pub fn no_page() -> [u8; 8192]
     [0; 8192]
 }
 
+// Writes to the terminal that is told; where that fails, it is told nothing.
+fn put(rt: &HostRuntime, terminal: &Terminal, bytes: &[u8]) {
+    let _ = match terminal {
+        Terminal::Absent => Ok(()),
+        Terminal::Standard => Print::write_all(&rt.stderr(), bytes),
+        Terminal::Handed(file) => {
+            let mut to = file;
+            Write::write_all(&mut to, bytes)
+        }
+    };
+}
+
 // Tells the terminal how far it is, in place of what it was told before; what is written next begins in the same line.
-pub fn show(pace: Pace, text: &[u8]) {
-    io::write_all(pace.fd, &[27, b'[', b'K']);
-    io::write_all(pace.fd, text);
-    io::write_all(pace.fd, &[13]);
+pub fn show(rt: &HostRuntime, pace: &Pace, text: &[u8]) {
+    put(rt, &pace.terminal, &[27, b'[', b'K']);
+    put(rt, &pace.terminal, text);
+    put(rt, &pace.terminal, &[13]);
 }
