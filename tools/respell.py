@@ -5,7 +5,7 @@ usage: python3 tools/respell.py      at the top of the repository, once, right a
 
 Each name of a .antt file or a clause that begins with a small letter and has a capital inside, as `mayBegin`, becomes
 snake case, `may_begin`, in every .antt, .rt, .edit and .md file and in tests/docs. What stands in a string stays. Where
-the new name is taken by a lemma already, that lemma takes `_lem`. It writes the names, old and new, to docs/PORT-NAMES.txt.
+the new name is taken by a lemma already, that lemma takes `_lem`. It writes the names, old and new, to docs/PORT-NAMES.txt (which has been put in order by crate since).
 """
 
 import os

@@ -3,7 +3,8 @@
 #   a path                  exists (`slots/proofs/Soundness` is crates/slots/proofs/Soundness.antt),
 #   CRATE/EDIT              is an edit of crates/CRATE/must-fail/,
 #   CRATE::NAME             is declared in crates/CRATE/src/,
-#   an equation, .. ≡ ..    stands so in a contract or a theorem, but for `now (x .entry)`, which may be x, where no .. is left out,
+#   an equation, .. ≡ ..    stands so in a contract or a theorem, but for `x.now` and `x.old`, which may be x, where no .. is left out,
+#   TYPE.FIELD              are declared, each of the two,
 #   a program's functions   are quoted in docs/PROMISES.md as they stand,
 #   any other name          is declared: in the file of `file`: `name`, `name` that it stands behind, otherwise in some file under crates/.
 # Not looked at: fenced and indented blocks, the key to the notation, other texts with blanks, and the words of words.txt.
@@ -25,7 +26,7 @@ cut -d' ' -f2 "$work/antt" "$work/rt" | sort -u >"$work/all"
 sed '/^#/d' tests/docs/words.txt >"$work/words"
 # contracts and theorems on one line, blanks squeezed, as they stand and with the contents of what is lent by its name
 cat crates/*/src/*.rt crates/*/{specs,proofs}/*.antt | tr -s ' \n' ' ' >"$work/said"
-sed -E 's/\(now \(([a-z]+) \.entry\)\)/\1/g' "$work/said" >"$work/short"
+sed -E 's/([a-z_0-9]+)\.(now|old)([^a-z_0-9]|$)/\1\3/g' "$work/said" >"$work/short"
 
 # the names in order: PAGE LINE ITEM BETWEEN NEXT NAME, BETWEEN the text since the last one, NEXT what follows the closing quote
 for page in README.md docs/BOOK.md docs/PROMISES.md; do
@@ -74,6 +75,8 @@ while IFS=$'\t' read -r page line item between next name; do
             file=''
             [ "$next" != _: ] || file=crates/$name.antt
         elif [ ! -f "crates/${name%%/*}/must-fail/${name#*/}.edit" ]; then miss "there is no such file and no such edit"; fi ;;
+    [A-Za-z]*.[a-z]*)
+        if [ ! -e "$name" ]; then anywhere "${name%%.*}" && anywhere "${name##*.}" || miss "nothing of that name is declared"; fi ;;
     *)
         one=${name#.}
         one=${one%%(*}

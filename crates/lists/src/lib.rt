@@ -1,4 +1,6 @@
 // Lists: definitions (specs/) and their laws (proofs/). The code is what crates of every kind say of a number.
+#![tactic(auto)]
+
 ghost use Rattle.std.specs.Prelude.{◌≡◌, cond, ◌≤◌, min};
 
 // No number: past every key and every time that counts.

@@ -3,7 +3,7 @@ use Prim.Native.Nat.{ℕ, suc, ◌+◌, ◌≤◌, ◌<◌}
 use mathlib.Core.Path.{◌≡◌, refl, sym, subst}
 use mathlib.Core.Bool.{Bool, true, false, not, cond}
 use mathlib.Core.List.{List, [], ◌∷◌}
-use lib.Dec.{T, leb, ltb, eqb, leb→le, le→leb, ltb→lt, nltb→le, eqb→eq, eqb_refl, not_T, T_not}
+use lib.Dec.{T, ltb, eqb, leb→le, le→leb, ltb→lt, nltb→le, eqb→eq, eqb_refl, not_T, T_not}
 use lib.ListN.{length}
 use Rattle.lists.specs.Lists.{◌∈◌, all?, pairwise?}
 use Rattle.lists.proofs.Bools.{and_l, and_r, and_i, is_true, is_false}

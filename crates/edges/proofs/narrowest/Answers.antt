@@ -1,5 +1,5 @@
 -- `edges::narrowest` meets its contract: the runs that begin before `at` are weighed. Assumes nothing.
-use Prim.Native.Nat.{◌-◌, min}
+use Prim.Native.Nat.{min}
 use mathlib.Core.Path.{sym, ap, ◌∙◌}
 use native.Mathlib.Omega.{arith}
 use Rattle.edges.proofs.Weighed.{stands-first, stands-end, stands-edge, stands-over, stands-none, stands_one}

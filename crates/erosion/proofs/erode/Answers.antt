@@ -1,5 +1,5 @@
 -- `erosion::erode` meets its contract. The loop's invariant: y has the columns that begin `have` set ones. Assumes nothing.
-use Prim.Native.Nat.{◌-◌, ◌≤◌, ◌<◌}
+use Prim.Native.Nat.{◌≤◌, ◌<◌}
 use native.Mathlib.Omega.{arith}
 use Rattle.erosion.proofs.Runs.{eroded-one, eroded-more, goes_on, eroded-end}
 use borrow.Author.Rules.{rules}

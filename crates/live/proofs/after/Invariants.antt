@@ -1,5 +1,5 @@
 -- `live::after` meets its contract. The loop's invariant: the tasks from place k on have finished by t. Assumes nothing.
-use Prim.Native.Nat.{ℕ, ◌-◌, ◌≤◌, ◌<◌}
+use Prim.Native.Nat.{ℕ, ◌≤◌, ◌<◌}
 use Rattle.live.specs.Live.{finish_at}
 use Rattle.live.proofs.after.Given as goal
 

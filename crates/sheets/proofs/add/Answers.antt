@@ -1,5 +1,5 @@
 -- `sheets::add` meets its contract: one figure more each turn. Assumes nothing.
-use Rattle.std.proofs.Common.{◌≡◌, ◌-◌, length, arith, rules}
+use Rattle.std.proofs.Common.{◌≡◌, length, arith, rules}
 use Rattle.sheets.proofs.Laws.{added_none, added_more, added-all}
 use Rattle.sheets.proofs.add.Goals as goal
 

@@ -1,5 +1,5 @@
 -- `sheets::put_figures` meets its contract: one figure more each turn. Assumes nothing.
-use Rattle.std.proofs.Common.{◌≡◌, ◌-◌, refl, arith, rules}
+use Rattle.std.proofs.Common.{◌≡◌, refl, arith, rules}
 use Rattle.text.proofs.Rows.{words-none, words_more}
 use Rattle.sheets.proofs.put_figures.Goals as goal
 

@@ -1,5 +1,5 @@
 -- `sheets::put_rows` meets its contract: one row more each turn. Assumes nothing.
-use Rattle.std.proofs.Common.{◌≡◌, ◌-◌, refl, arith, rules}
+use Rattle.std.proofs.Common.{◌≡◌, refl, arith, rules}
 use Rattle.sheets.proofs.Rows.{rows_none, rows_more}
 use Rattle.sheets.proofs.put_rows.Goals as goal
 

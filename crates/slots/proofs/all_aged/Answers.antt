@@ -1,5 +1,4 @@
 -- `slots::all_aged` meets its contract: the first i slots are aged, the others as they were. Assumes nothing.
-use Prim.Native.Nat.{◌-◌}
 use mathlib.Core.Path.{refl, ◌∙◌}
 use native.Mathlib.Omega.{arith}
 use Rattle.lists.proofs.Append.{map-step, map-done}

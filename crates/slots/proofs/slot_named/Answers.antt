@@ -1,5 +1,4 @@
 -- `slots::slot_named` meets its contract: what is left of the slots gives the place. Assumes nothing.
-use Prim.Native.Nat.{◌-◌}
 use mathlib.Core.Path.{sym, ◌∙◌}
 use native.Mathlib.Omega.{arith}
 use Rattle.lists.proofs.Append.{index_on, index-here, index-none}

@@ -1,5 +1,4 @@
 -- `text::put_spaced` meets its contract: one number more each turn. Assumes nothing.
-use Prim.Native.Nat.{◌-◌}
 use mathlib.Core.Path.{◌≡◌, refl}
 use native.Mathlib.Omega.{arith}
 use Rattle.text.proofs.Rows.{words-none, words_more}
