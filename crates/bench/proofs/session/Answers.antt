@@ -1,5 +1,4 @@
 -- `bench::session` is safe and ends: the measure is the rounds that are left, and nothing has to hold from turn to turn. Assumes nothing.
-use Prim.Native.Nat.{◌-◌}
 use Rattle.bench.proofs.session.Goals as goal
 
 pub loop-round-init : goal.loop-round-init

@@ -1,5 +1,4 @@
 -- `bench::total` is safe and ends: the measure is the words that are left, and nothing has to hold from turn to turn. Assumes nothing.
-use Prim.Native.Nat.{◌-◌}
 use Rattle.bench.proofs.total.Goals as goal
 
 pub loop-i-init : goal.loop-i-init

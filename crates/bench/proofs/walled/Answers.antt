@@ -1,5 +1,4 @@
 -- `bench::walled` is safe and ends: the measure is the tasks that are left, and nothing has to hold from turn to turn. Assumes nothing.
-use Prim.Native.Nat.{◌-◌}
 use Rattle.bench.proofs.walled.Goals as goal
 
 pub loop-i-init : goal.loop-i-init

@@ -1,5 +1,4 @@
 -- `demo::holder` meets its contract: what is left of the tasks gives the place. Assumes nothing.
-use Prim.Native.Nat.{◌-◌}
 use mathlib.Core.Path.{◌≡◌, sym, ◌∙◌}
 use native.Mathlib.Omega.{arith}
 use lib.ListN.{length}
