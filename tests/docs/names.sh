@@ -4,7 +4,7 @@
 #   CRATE/EDIT              is an edit of crates/CRATE/must-fail/,
 #   CRATE::NAME             is declared in crates/CRATE/src/,
 #   an equation, .. ≡ ..    stands so in a contract or a theorem, but for `x.now` and `x.old`, which may be x, where no .. is left out,
-#   TYPE.FIELD              are declared, each of the two,
+#   TYPE.FIELD              is two names that are declared,
 #   a program's functions   are quoted in docs/PROMISES.md as they stand,
 #   any other name          is declared: in the file of `file`: `name`, `name` that it stands behind, otherwise in some file under crates/.
 # Not looked at: fenced and indented blocks, the key to the notation, other texts with blanks, and the words of words.txt.

@@ -75,7 +75,7 @@ use Rattle.events.proofs.read_at.Reads as read_at
 use Rattle.events.proofs.write.Reads as write
 
 -- DEMAND 1. "Every call takes any board, task, instant or buffer and ends": a caller has nothing to show (`X.Asked` is the `requires` of X as they
--- stand in the code; `stamp_all`, walked by hand, has no `Asked` to read, and no `requires`), and each call is proved to end.
+-- stand in the code; that of `stamp_all` is not read here, and it has no `requires`), and each call is proved to end.
 pub demand-1-takes-any : Any new.Asked × Any with-grid.Asked × Any is-sound.Asked × Any submit.Asked × Any clock.Asked × Any withdraw.Asked × Any openings-call.Asked × Any horizon-call.Asked
     × Any busy.Asked × Any stamp.Asked × Any read.Asked × Any read_at.Asked × Any write.Asked
 demand-1-takes-any =

@@ -4,7 +4,7 @@ use mathlib.Core.Path.{◌≡◌, refl, sym, ap, ◌∙◌, subst}
 use mathlib.Core.Logic.{◌⊎◌, inl, inr}
 use mathlib.Core.Bool.{Bool, true, false, not, ◌&&◌}
 use mathlib.Core.List.Memᴰ.{head as first_of}
-use mathlib.Core.List.Memᴰ.{tail as Later-of}
+use mathlib.Core.List.Memᴰ.{tail as later-of}
 use mathlib.Core.List.{List, [], ◌∷◌, ◌++◌}
 use mathlib.Core.Option.{Option, none, some}
 use native.Mathlib.Omega.{arith}
@@ -107,7 +107,7 @@ pub first-before : (before : List Row) (r : Row) (after : List Row) {k : ℕ} �
 first-before [] r after (this g) h = first_of refl
 first-before [] r after (later f g) h = absurd (f h)
 first-before (x ∷ before) r after (this g) h = first_of refl
-first-before (x ∷ before) r after (later f g) h = Later-of (first-before before r after g h)
+first-before (x ∷ before) r after (later f g) h = later-of (first-before before r after g h)
 
 -- FIRST IS LOWEST where the numbers rise
 pub first-lowest : {rows : List Row} {k j : ℕ} → Rises rows → First rows k → Holding rows j → k ≤ j

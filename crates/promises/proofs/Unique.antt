@@ -62,7 +62,7 @@ busy-unique κs a r q s t e f = one e f
 pub stamp-unique : (κs : _) (a : _) (r q : _) (s t : _) → stamp.Post κs a r s → stamp.Post κs a q t → r ≡ q
 stamp-unique κs a r q s t e f = one e f
 
--- `stamping::stamp_all` and `stamp_slots` are walked by hand, so that no `Post` of theirs can be read; this is their promise as it is written there
+-- of `stamping::stamp_all` and `stamp_slots` no `Post` is read (the older kit had none): this is their promise as it is written there
 pub stamp-all-unique : (i : ℕ) (records after other : List Task) → after ≡ stamped_all i records → other ≡ stamped_all i records → after ≡ other
 stamp-all-unique i records after other e f = one e f
 
