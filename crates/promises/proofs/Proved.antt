@@ -74,8 +74,12 @@ open-cases : Unit {0}
 unfolding numbers record_numbers after_event play same same_all passes at only
 open-cases = tt
 
+open-beside : Unit {0}
+unfolding neighbours lent_to beside beside_set
+open-beside = tt
+
 open-sets : Unit {0}
-unfolding refused_list end_of filled_up edge_set neighbours lent_to beside beside_set played with_deadline table_with with_clocks first_six seven listing proving_set_over proving_set two_runs waiting_ahead telling_set
+unfolding open-beside refused_list end_of filled_up edge_set played with_deadline table_with with_clocks first_six seven listing proving_set_over proving_set two_runs waiting_ahead telling_set
 open-sets = tt
 
 open-listing : Unit {0}

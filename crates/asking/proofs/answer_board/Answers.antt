@@ -8,5 +8,6 @@ use Rattle.asking.proofs.answer_board.Goals as goal
 pub returns : goal.returns
 unfolding answered
 returns c =
-    let all = said-as c.args.out.now (ap (replied (unsoundness c.args.board)) (front-text (board_text c.args.board) _ c.put_board-n.ensures.value c.put_board-n.ensures.out_after)) (c.show.ensures.value, c.show.ensures.out_after) in
+    let front = front-text (board_text c.args.board) _ c.put_board-n.ensures.value c.put_board-n.ensures.out_after in
+    let all = said-as c.args.out.now (ap (replied (unsoundness c.args.board)) front) (c.show.ensures.value, c.show.ensures.out_after) in
     record { value = all.0; out_after = all.1 }

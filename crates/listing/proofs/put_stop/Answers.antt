@@ -9,5 +9,12 @@ returns c =
       put = stop-put a.number a.kind a.tail.now (put-text c.put_bytes-event_at.ensures.value c.put_bytes-event_at.ensures.out_after)
           (next-number a.number c.put_long-after_event.ensures.value c.put_long-after_event.ensures.out_after) (put-text c.put_bytes-kind_at.ensures.value c.put_bytes-kind_at.ensures.out_after)
           (put-text c.put_decimal-after_kind.ensures.value c.put_decimal-after_kind.ensures.out_after) (put-text c.put_bytes.ensures.value c.put_bytes.ensures.out_after);
-      upper_bound = omega (arith, c.put_bytes-event_at.ensures.value, c.put_long-after_event.ensures.upper_bound, c.put_bytes-kind_at.ensures.value, c.put_decimal-after_kind.ensures.upper_bound, c.put_bytes.ensures.value);
+      upper_bound = omega (
+        arith,
+        c.put_bytes-event_at.ensures.value,
+        c.put_long-after_event.ensures.upper_bound,
+        c.put_bytes-kind_at.ensures.value,
+        c.put_decimal-after_kind.ensures.upper_bound,
+        c.put_bytes.ensures.value,
+      );
     }

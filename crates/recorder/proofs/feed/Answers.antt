@@ -71,7 +71,8 @@ overflow_add-at c =
     let most : c.loop-said.at + c.find.result ≤ length c.args.piece.now = let piece = c.args.piece.now in
     omega (arith, c.find.ensures.upper_bound, ap length (onward piece c.loop-said.at), length-drop c.loop-said.at piece, left) in
     let further : let q = c.feed_part-p.result in
-    (0 < q.taken) × (c.loop-said.at + q.taken ≤ length c.args.piece.now) × (c.loop-said.used + q.used ≤ length c.args.out.now) = goes_further c.loop-said.invariant go _ (ap (λ k. c.loop-said.at + k) c.find.ensures.value) most c.feed_part-p.ensures.value in
+    (0 < q.taken) × (c.loop-said.at + q.taken ≤ length c.args.piece.now) × (c.loop-said.used + q.used ≤ length c.args.out.now) =
+    goes_further c.loop-said.invariant go _ (ap (λ k. c.loop-said.at + k) c.find.ensures.value) most c.feed_part-p.ensures.value in
     let fit : Fits w64 (length c.args.piece.now) × Fits w64 (length c.args.out.now) = (search rules, search rules) in
     omega (arith, further.1, fit.0.fits)
 
@@ -82,7 +83,8 @@ overflow_add-used c =
     let most : c.loop-said.at + c.find.result ≤ length c.args.piece.now = let piece = c.args.piece.now in
     omega (arith, c.find.ensures.upper_bound, ap length (onward piece c.loop-said.at), length-drop c.loop-said.at piece, left) in
     let further : let q = c.feed_part-p.result in
-    (0 < q.taken) × (c.loop-said.at + q.taken ≤ length c.args.piece.now) × (c.loop-said.used + q.used ≤ length c.args.out.now) = goes_further c.loop-said.invariant go _ (ap (λ k. c.loop-said.at + k) c.find.ensures.value) most c.feed_part-p.ensures.value in
+    (0 < q.taken) × (c.loop-said.at + q.taken ≤ length c.args.piece.now) × (c.loop-said.used + q.used ≤ length c.args.out.now) =
+    goes_further c.loop-said.invariant go _ (ap (λ k. c.loop-said.at + k) c.find.ensures.value) most c.feed_part-p.ensures.value in
     let fit : Fits w64 (length c.args.piece.now) × Fits w64 (length c.args.out.now) = (search rules, search rules) in
     omega (arith, further.2, fit.1.fits)
 
@@ -93,7 +95,8 @@ loop-said-smaller c =
     let most : c.loop-said.at + c.find.result ≤ length c.args.piece.now = let piece = c.args.piece.now in
     omega (arith, c.find.ensures.upper_bound, ap length (onward piece c.loop-said.at), length-drop c.loop-said.at piece, left) in
     let further : let q = c.feed_part-p.result in
-    (0 < q.taken) × (c.loop-said.at + q.taken ≤ length c.args.piece.now) × (c.loop-said.used + q.used ≤ length c.args.out.now) = goes_further c.loop-said.invariant go _ (ap (λ k. c.loop-said.at + k) c.find.ensures.value) most c.feed_part-p.ensures.value in
+    (0 < q.taken) × (c.loop-said.at + q.taken ≤ length c.args.piece.now) × (c.loop-said.used + q.used ≤ length c.args.out.now) =
+    goes_further c.loop-said.invariant go _ (ap (λ k. c.loop-said.at + k) c.find.ensures.value) most c.feed_part-p.ensures.value in
     omega (arith, further.0, further.1)
 
 pub loop-said-preserved : goal.loop-said-preserved
@@ -102,7 +105,8 @@ loop-said-preserved c =
     let left : c.loop-said.at < length c.args.piece.now = some_left c.loop-said.invariant go in
     let most : c.loop-said.at + c.find.result ≤ length c.args.piece.now = let piece = c.args.piece.now in
     omega (arith, c.find.ensures.upper_bound, ap length (onward piece c.loop-said.at), length-drop c.loop-said.at piece, left) in
-    going_more c.loop-said.invariant go _ (ap (λ k. c.loop-said.at + k) c.find.ensures.value) most (c.feed_part-p.ensures.value, (c.feed_part-p.ensures.held_after, (c.feed_part-p.ensures.out_after, c.feed_part-p.ensures.err_after)))
+    let p = c.feed_part-p.ensures in
+    going_more c.loop-said.invariant go _ (ap (λ k. c.loop-said.at + k) c.find.ensures.value) most (p.value, (p.held_after, (p.out_after, p.err_after)))
 
 pub shape_of-out-then-r : goal.shape_of-out-then-r
 shape_of-out-then-r c = same-room c.loop-said.invariant

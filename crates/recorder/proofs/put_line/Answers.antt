@@ -16,7 +16,8 @@ unfolding made_of
 returns-in-Nothing c =
     let by_read : (x : Line) → c.read-said.result ≡ x → let a = c.args in
     let text = a.text.now in
-    line_made a.line a.records text ≡ made_of a.line a.records (part c.mark_end-from.result (length text) text) x = λ x q. let a = c.args in made_by a.line a.records a.text.now _ x c.mark_end-from.ensures.0 c.read-said.ensures q in
+    line_made a.line a.records text ≡ made_of a.line a.records (part c.mark_end-from.result (length text) text) x =
+    λ x q. let a = c.args in made_by a.line a.records a.text.now _ x c.mark_end-from.ensures.0 c.read-said.ensures q in
     rw (by_read Nothing c.in-Nothing.is) (record {
       value = refl;
       out_after = refl;
@@ -28,7 +29,8 @@ unfolding made_of
 returns-in-Says c =
     let by_read : (x : Line) → c.read-said.result ≡ x → let a = c.args in
     let text = a.text.now in
-    line_made a.line a.records text ≡ made_of a.line a.records (part c.mark_end-from.result (length text) text) x = λ x q. let a = c.args in made_by a.line a.records a.text.now _ x c.mark_end-from.ensures.0 c.read-said.ensures q in
+    line_made a.line a.records text ≡ made_of a.line a.records (part c.mark_end-from.result (length text) text) x =
+    λ x q. let a = c.args in made_by a.line a.records a.text.now _ x c.mark_end-from.ensures.0 c.read-said.ensures q in
     let p = c.put_record.ensures in
     let step : ℕ → Step = λ n. record { used = n; said = 0; records = 1; more = true } in
     rw (by_read (Says _) c.in-Says.is) (record {
@@ -42,7 +44,8 @@ unfolding made_of
 returns-in-Wrong c =
     let by_read : (x : Line) → c.read-said.result ≡ x → let a = c.args in
     let text = a.text.now in
-    line_made a.line a.records text ≡ made_of a.line a.records (part c.mark_end-from.result (length text) text) x = λ x q. let a = c.args in made_by a.line a.records a.text.now _ x c.mark_end-from.ensures.0 c.read-said.ensures q in
+    line_made a.line a.records text ≡ made_of a.line a.records (part c.mark_end-from.result (length text) text) x =
+    λ x q. let a = c.args in made_by a.line a.records a.text.now _ x c.mark_end-from.ensures.0 c.read-said.ensures q in
     let p = c.complain.ensures in
     let step : ℕ → Step = λ n. record { used = 1; said = n; records = 0; more = false } in
     rw (by_read (Wrong _ _) c.in-Wrong.is) (record {
