@@ -65,24 +65,14 @@ pub struct Submission {
 pub fn is_live(k: Task) -> bool
     ensures { result ≡ live k }
 {
-    let phase = k.phase;
-    match phase {
-        Phase::Ended => false,
-        Phase::Waiting => true,
-        Phase::Running => true,
-    }
+    matches!(k.phase, Phase::Waiting | Phase::Running)
 }
 
 // It has not begun to hold its columns.
 pub fn is_waiting(k: Task) -> bool
     ensures { result ≡ waiting_phase k.phase }
 {
-    let phase = k.phase;
-    match phase {
-        Phase::Ended => false,
-        Phase::Waiting => true,
-        Phase::Running => false,
-    }
+    matches!(k.phase, Phase::Waiting)
 }
 
 // Zeros and the phase ended.
@@ -117,7 +107,7 @@ pub fn is_zeros(k: Task) -> bool
 fn finish(start: u32, e: u32) -> u64
     ensures { result ≡ start + e }
 {
-    start as u64 + e as u64
+    u64::from(start) + u64::from(e)
 }
 
 // Whether the record's phase is the one that it has at an instant.
@@ -125,9 +115,8 @@ pub fn in_phase(k: Task, instant: u32) -> bool
     ensures { result ≡ same_phase k.phase (phase_at instant k) }
 {
     let waits = instant < k.start;
-    let held = (instant as u64) < finish(k.start, k.e);
-    let phase = k.phase;
-    match phase {
+    let held = u64::from(instant) < finish(k.start, k.e);
+    match k.phase {
         Phase::Ended => !waits & !held,
         Phase::Waiting => waits,
         Phase::Running => !waits & held,
@@ -138,22 +127,14 @@ pub fn in_phase(k: Task, instant: u32) -> bool
 pub fn stamp(k: Task, instant: u32) -> Task
     ensures { result ≡ stamped instant k }
 {
-    let mut phase = Phase::Ended;
-    if instant < k.start {
-        phase = Phase::Waiting;
-    } else if (instant as u64) < finish(k.start, k.e) {
-        phase = Phase::Running;
-    }
-    Task {
-        id: k.id,
-        e: k.e,
-        d: k.d,
-        start: k.start,
-        w: k.w,
-        h: k.h,
-        column: k.column,
-        phase: phase,
-    }
+    let phase = if instant < k.start {
+        Phase::Waiting
+    } else if u64::from(instant) < finish(k.start, k.e) {
+        Phase::Running
+    } else {
+        Phase::Ended
+    };
+    Task { phase, ..k }
 }
 
 // Whether n is a multiple of the grid. Only a device that is refused has the grid 0; a grid of 1, document 01's, takes no division.
@@ -166,7 +147,7 @@ fn is_multiple(grid: u8, n: u16) -> bool
     if grid == 0 {
         return n == 0;
     }
-    n % grid as u16 == 0
+    n % u16::from(grid) == 0
 }
 
 // Whether a task may begin at a column: "only where c − 1 is a multiple of g".
@@ -234,10 +215,10 @@ pub fn booked(clock: u32, a: Submission, start: u32, column: u16) -> Task
             id: a.id,
             e: a.e,
             d: a.d,
-            start: start,
+            start,
             w: a.w,
             h: a.h,
-            column: column,
+            column,
             phase: Phase::Ended,
         },
         clock,

@@ -7,7 +7,7 @@ pub returns-in-Ended : goal.returns-in-Ended
 unfolding phase_at
 returns-in-Ended c =
     let a = c.args in
-    rw (c.in-Ended.is, is-ended a.instant a.k, c.finish.ensures)
+    rw (c.in-Ended.is, is-ended a.instant a.k, c.finish.ensures, c.from.ensures)
 
 pub returns-in-Waiting : goal.returns-in-Waiting
 unfolding phase_at
@@ -19,4 +19,4 @@ pub returns-in-Running : goal.returns-in-Running
 unfolding phase_at
 returns-in-Running c =
     let a = c.args in
-    rw (c.in-Running.is, is-running a.instant a.k, c.finish.ensures)
+    rw (c.in-Running.is, is-running a.instant a.k, c.finish.ensures, c.from.ensures)

@@ -1,5 +1,5 @@
 -- `tasks::is_multiple` meets its contract: the grids 0 and 1 by their laws, the others by the remainder. Assumes nothing.
-use mathlib.Core.Path.{◌≡◌, refl, sym, ap, ◌∙◌}
+use mathlib.Core.Path.{◌≡◌, sym, ap, ◌∙◌}
 use native.Mathlib.Omega.{arith}
 use Rattle.tasks.specs.Numbers.{multiple}
 use Rattle.tasks.proofs.Grid.{multiple-one, multiple-none}
@@ -13,4 +13,4 @@ returns-then-grid-eq0 c = let a = c.args in let z : a.grid ≡ 0 = omega arith i
 
 pub returns : goal.returns
 unfolding multiple
-returns c = refl
+returns c = rw c.from.ensures

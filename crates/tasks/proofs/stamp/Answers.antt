@@ -9,16 +9,16 @@ pub returns-then-instant-k : goal.returns-then-instant-k
 unfolding stamped
 returns-then-instant-k c = rw (phase-waiting c.args.instant c.args.k c.if-instant-k.true)
 
-pub returns-then-instant-finish : goal.returns-then-instant-finish
+pub returns-then-from-finish : goal.returns-then-from-finish
 unfolding stamped
-returns-then-instant-finish c =
+returns-then-from-finish c =
     let a = c.args in
-    let h : a.instant < finish a.k = omega (arith, c.finish.ensures, c.if-instant-finish.true) in
+    let h : a.instant < finish a.k = omega (arith, c.finish.ensures, c.from.ensures, c.if-from-finish.true) in
     rw (phase-running a.instant a.k c.if-instant-k.false h)
 
-pub returns-else-instant-finish : goal.returns-else-instant-finish
+pub returns-else-from-finish : goal.returns-else-from-finish
 unfolding stamped
-returns-else-instant-finish c =
+returns-else-from-finish c =
     let a = c.args in
-    let h : finish a.k ≤ a.instant = omega (arith, c.finish.ensures, c.if-instant-finish.false) in
+    let h : finish a.k ≤ a.instant = omega (arith, c.finish.ensures, c.from.ensures, c.if-from-finish.false) in
     rw (phase-ended a.instant a.k h)
