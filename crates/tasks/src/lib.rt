@@ -31,7 +31,7 @@ pub struct Device {
 }
 
 // "each record carries its phase: waiting, running or ended". Ended is first: a free slot is then all zeros.
-#[derive(Clone, Copy)]
+#[derive(Clone, Copy, PartialEq, Eq)]
 pub enum Phase {
     Ended,
     Waiting,
@@ -65,14 +65,14 @@ pub struct Submission {
 pub fn is_live(k: Task) -> bool
     ensures { result ≡ live k }
 {
-    matches!(k.phase, Phase::Waiting | Phase::Running)
+    k.phase != Phase::Ended
 }
 
 // It has not begun to hold its columns.
 pub fn is_waiting(k: Task) -> bool
     ensures { result ≡ waiting_phase k.phase }
 {
-    matches!(k.phase, Phase::Waiting)
+    k.phase == Phase::Waiting
 }
 
 // Zeros and the phase ended.
@@ -91,6 +91,8 @@ pub fn free_slot() -> Task
     }
 }
 
+// Every number of the record is 0.
+// Stays: `==` with a free slot would read the phase too, which `zeros` does not.
 pub fn is_zeros(k: Task) -> bool
     ensures { result ≡ zeros k }
 {
@@ -110,31 +112,34 @@ fn finish(start: u32, e: u32) -> u64
     u64::from(start) + u64::from(e)
 }
 
+// The phase that the record has at an instant.
+fn phase_at(k: Task, instant: u32) -> Phase
+    ensures { result ≡ phase_at instant k }
+{
+    if instant < k.start {
+        Phase::Waiting
+    } else if u64::from(instant) < finish(k.start, k.e) {
+        Phase::Running
+    } else {
+        Phase::Ended
+    }
+}
+
 // Whether the record's phase is the one that it has at an instant.
 pub fn in_phase(k: Task, instant: u32) -> bool
     ensures { result ≡ same_phase k.phase (phase_at instant k) }
 {
-    let waits = instant < k.start;
-    let held = u64::from(instant) < finish(k.start, k.e);
-    match k.phase {
-        Phase::Ended => !waits & !held,
-        Phase::Waiting => waits,
-        Phase::Running => !waits & held,
-    }
+    k.phase == phase_at(k, instant)
 }
 
 // The record with the phase that it has at an instant.
 pub fn stamp(k: Task, instant: u32) -> Task
     ensures { result ≡ stamped instant k }
 {
-    let phase = if instant < k.start {
-        Phase::Waiting
-    } else if u64::from(instant) < finish(k.start, k.e) {
-        Phase::Running
-    } else {
-        Phase::Ended
-    };
-    Task { phase, ..k }
+    Task {
+        phase: phase_at(k, instant),
+        ..k
+    }
 }
 
 // Whether n is a multiple of the grid. Only a device that is refused has the grid 0; a grid of 1, document 01's, takes no division.

@@ -1,24 +1,7 @@
--- `tasks::stamp` meets its contract: each way through the two tests writes the phase that they decide. Assumes nothing.
-use Prim.Native.Nat.{◌≤◌, ◌<◌}
-use native.Mathlib.Omega.{arith}
-use Rattle.tasks.specs.Tasks.{finish, stamped}
-use Rattle.tasks.proofs.Laws.{phase-waiting, phase-running, phase-ended}
+-- `tasks::stamp` meets its contract: the phase of the instant. Assumes nothing.
+use Rattle.tasks.specs.Tasks.{stamped}
 use Rattle.tasks.proofs.stamp.Goals as goal
 
-pub returns-then-instant-k : goal.returns-then-instant-k
+pub returns : goal.returns
 unfolding stamped
-returns-then-instant-k c = rw (phase-waiting c.args.instant c.args.k c.if-instant-k.true)
-
-pub returns-then-from-finish : goal.returns-then-from-finish
-unfolding stamped
-returns-then-from-finish c =
-    let a = c.args in
-    let h : a.instant < finish a.k = omega (arith, c.finish.ensures, c.from.ensures, c.if-from-finish.true) in
-    rw (phase-running a.instant a.k c.if-instant-k.false h)
-
-pub returns-else-from-finish : goal.returns-else-from-finish
-unfolding stamped
-returns-else-from-finish c =
-    let a = c.args in
-    let h : finish a.k ≤ a.instant = omega (arith, c.finish.ensures, c.from.ensures, c.if-from-finish.false) in
-    rw (phase-ended a.instant a.k h)
+returns c = rw c.phase_at.ensures
