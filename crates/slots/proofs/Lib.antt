@@ -1,3 +1,4 @@
 pub mod Soundness
 pub mod Ageing
 pub mod Booking
+pub mod Named

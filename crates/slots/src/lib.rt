@@ -1,8 +1,7 @@
 // The 64 slots of a board: whether each by itself is sound, which has an id, and what the clock makes of them.
 #![tactic(auto)]
 
-ghost use Rattle.std.specs.Prelude.{◌≡◌, ◌≤◌};
-ghost use Rattle.lists.specs.Lists.{index_of};
+ghost use Rattle.std.specs.Prelude.{◌≡◌, ◌≤◌, position};
 ghost use Rattle.tasks.specs.declared.Task.{Task};
 ghost use Rattle.slots.specs.Slots.{task_sound, slot_sound, aged_to, all_aged_to, named};
 
@@ -20,10 +19,10 @@ fn task_sound(on: Device, now: u32, k: Task) -> bool
         & size
         & time
         & (1 <= k.column)
-        & (k.column as u32 + k.w as u32 <= on.columns as u32 + 1)
+        & (u32::from(k.column) + u32::from(k.w) <= u32::from(on.columns) + 1)
         & on_grid
-        & (k.start as u64 + k.e as u64 <= k.d as u64)
-        & ((now as u64) < k.start as u64 + k.e as u64)
+        & (u64::from(k.start) + u64::from(k.e) <= u64::from(k.d))
+        & (u64::from(now) < u64::from(k.start) + u64::from(k.e))
         & phase
 }
 
@@ -43,7 +42,7 @@ fn aged(k: Task, instant: u32) -> Task
     ensures { result ≡ aged_to instant k }
 {
     if tasks::is_live(k) {
-        if k.start as u64 + k.e as u64 <= instant as u64 {
+        if u64::from(k.start) + u64::from(k.e) <= u64::from(instant) {
             return tasks::free_slot();
         }
         return tasks::stamp(k, instant);
@@ -56,11 +55,8 @@ pub fn all_aged(tasks: [Task; 64], instant: u32) -> [Task; 64]
     ensures { result ≡ all_aged_to instant tasks }
 {
     let mut next = tasks;
-    let mut i: usize = 0;
-    while i < 64 {
-        let k = next[i];
-        next[i] = aged(k, instant);
-        i += 1;
+    for k in next.iter_mut() {
+        *k = aged(*k, instant);
     }
     next
 }
@@ -72,17 +68,9 @@ fn is_named(k: Task, id: u32) -> bool
     live & (k.id == id)
 }
 
-// The slot of the live task of that id, and 64 where there is none.
-pub fn slot_named(tasks: [Task; 64], id: u32) -> usize
-    ensures { result ≡ index_of (named id) tasks }
+// The slot of the live task of that id, if there is one.
+pub fn slot_named(tasks: [Task; 64], id: u32) -> Option<usize>
+    ensures { result ≡ position (named id) tasks }
 {
-    let mut i: usize = 0;
-    while i < 64 {
-        let k = tasks[i];
-        if is_named(k, id) {
-            return i;
-        }
-        i += 1;
-    }
-    i
+    tasks.iter().position(|k| is_named(*k, id))
 }

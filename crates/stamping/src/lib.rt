@@ -10,10 +10,8 @@ use tasks::Task;
 pub fn stamp_all(records: &mut [Task], instant: u32)
     ensures { records.new ≡ stamped_all instant records.old }
 {
-    let mut i: usize = 0;
-    while i < records.len() {
-        records[i] = tasks::stamp(records[i], instant);
-        i += 1;
+    for k in records.iter_mut() {
+        *k = tasks::stamp(*k, instant);
     }
 }
 

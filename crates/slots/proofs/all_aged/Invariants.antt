@@ -1,13 +1,9 @@
--- `slots::all_aged` meets its contract: the first i slots are aged, the others as they were. Assumes nothing.
-use Prim.Native.Nat.{◌-◌, ◌≤◌}
+-- `slots::all_aged` meets its contract: the slots passed are aged, the others as they were. Assumes nothing.
 use mathlib.Core.Path.{◌≡◌}
 use mathlib.Core.List.{map, ◌++◌}
-use lib.ListN.{length, take, drop}
+use lib.ListN.{take, drop}
 use Rattle.slots.specs.Slots.{aged_to}
 use Rattle.slots.proofs.all_aged.Given as goal
 
-abbrev pub invariant-loop-i : goal.invariant-loop-i
-invariant-loop-i l = (l.i ≤ 64) × (length l.initial.next ≡ 64) × (l.next ≡ map (aged_to l.instant) (take l.i l.initial.next) ++ drop l.i l.initial.next)
-
-abbrev pub decreases-loop-i : goal.decreases-loop-i
-decreases-loop-i l = 64 - l.i
+abbrev pub invariant-loop-k : goal.invariant-loop-k
+invariant-loop-k l = l.k-items ≡ map (aged_to l.instant) (take l.k-index l.initial.k-items) ++ drop l.k-index l.initial.k-items
