@@ -20,10 +20,8 @@ fn same_ids(live: &Live, i: usize, n: usize) -> u32
 {
     let id = live[live::ID + i];
     let mut hits: u32 = 0;
-    let mut j = i + 1;
-    while j < n {
+    for j in i + 1..n {
         hits += lists::one_if(id == live[live::ID + j]);
-        j += 1;
     }
     hits
 }
@@ -33,12 +31,10 @@ fn ids_differ(live: &Live, n: usize) -> bool
     requires { n ≤ 64 }
     ensures { result ≡ pairwise? (λ i j. not (eqb (id_at live.now i) (id_at live.now j))) (range 0 n) }
 {
-    let mut i: usize = 0;
-    while i < n {
+    for i in 0..n {
         if 0 < same_ids(live, i, n) {
             return false;
         }
-        i += 1;
     }
     true
 }
@@ -50,12 +46,10 @@ fn take(row: &mut [u32; 257], left: u32, past: u32, start: u32, finish: u32) -> 
     ensures { Taken left past start finish row.old row.new result }
 {
     let mut hits: u32 = 0;
-    let mut c = left;
-    while c < past {
+    for c in left..past {
         let at = c as usize;
         hits += lists::one_if(row[at] < finish);
         row[at] = start;
-        c += 1;
     }
     hits
 }
@@ -68,8 +62,7 @@ fn none_meets(live: &Live, n: usize) -> bool
     ensures { Judged n live.now result }
 {
     let mut row = [0xffff_ffffu32; 257];
-    let mut i: usize = 0;
-    while i < n {
+    for i in 0..n {
         let left = live[live::LEFT + i];
         let past = live[live::PAST + i];
         let start = live[live::FROM + i];
@@ -77,7 +70,6 @@ fn none_meets(live: &Live, n: usize) -> bool
         if 0 < take(&mut row, left, past, start, finish) {
             return false;
         }
-        i += 1;
     }
     true
 }
@@ -92,19 +84,14 @@ pub fn test(on: Device, clock: u32, tasks: [Task; 64], live: &mut Live) -> Findi
     let v = survey::survey(on, clock, tasks, &mut raw);
     let fits = tasks::device_fits(on);
     if !(fits & (clock <= tasks::LAST_INSTANT) & v.sound) {
-        return Findings {
-            count: v.count,
-            used: v.used,
-            sound: false,
-        };
+        return Findings { sound: false, ..v };
     }
     sorting::sort(&raw, v.count, live);
     let differ = ids_differ(live, v.count);
     let apart = none_meets(live, v.count);
     Findings {
-        count: v.count,
-        used: v.used,
         sound: differ & apart,
+        ..v
     }
 }
 

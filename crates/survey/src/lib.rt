@@ -36,29 +36,22 @@ pub fn survey(on: Device, clock: u32, tasks: [Task; 64], live: &mut Live) -> Fin
     let mut count: usize = 0;
     let mut used: u64 = 0;
     let mut sound = true;
-    let mut i: usize = 0;
-    while i < 64 {
-        let k = tasks[i];
+    for (i, &k) in tasks.iter().enumerate() {
         let well = slots::slot_sound(on, clock, k);
         let lives = tasks::is_live(k);
-        sound = sound & well;
+        sound &= well;
         live::put(
             live,
             count,
             k.start,
-            ((k.start as u64 + k.e as u64) % 4_294_967_296) as u32,
-            k.column as u32,
-            k.column as u32 + k.w as u32,
+            k.start.wrapping_add(k.e),
+            u32::from(k.column),
+            u32::from(k.column) + u32::from(k.w),
             k.id,
             i as u32,
         );
         count += lists::one_if(lives) as usize;
         used = used_with(used, i as u32, lives);
-        i += 1;
     }
-    Findings {
-        count: count,
-        used: used,
-        sound: sound,
-    }
+    Findings { count, used, sound }
 }

@@ -14,6 +14,3 @@ apart? live i n = pairwise? (λ a b. not (eqb (id_at live a) (id_at live b))) (r
 
 abbrev pub invariant-loop-i : goal.invariant-loop-i
 invariant-loop-i l = (l.i ≤ l.n) × (apart? l.live 0 l.n ≡ apart? l.live l.i l.n)
-
-abbrev pub decreases-loop-i : goal.decreases-loop-i
-decreases-loop-i l = l.n - l.i

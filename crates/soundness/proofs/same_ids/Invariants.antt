@@ -7,6 +7,3 @@ use Rattle.soundness.proofs.same_ids.Given as goal
 
 abbrev pub invariant-loop-j : goal.invariant-loop-j
 invariant-loop-j l = CountedTo (λ v. eqb (id_at l.live l.i) (id_at l.live v)) l.i l.n l.hits l.j
-
-abbrev pub decreases-loop-j : goal.decreases-loop-j
-decreases-loop-j l = l.n - l.j

@@ -5,6 +5,3 @@ use Rattle.soundness.proofs.take.Given as goal
 
 abbrev pub invariant-loop-c : goal.invariant-loop-c
 invariant-loop-c l = TakenTo l.left l.past l.start l.finish l.initial.row l.row l.hits l.c
-
-abbrev pub decreases-loop-c : goal.decreases-loop-c
-decreases-loop-c l = l.past - l.c

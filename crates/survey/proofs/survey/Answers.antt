@@ -1,6 +1,5 @@
 -- `survey::survey` meets its contract: the loop passes the slots one by one. Assumes nothing.
 use borrow.Author.Rules.{rules}
-use Prim.Native.Nat.{◌-◌}
 use native.Mathlib.Omega.{arith}
 use Rattle.words.proofs.Digits.{bit-of-zero}
 use Rattle.survey.proofs.Passed.{begin, pass, end}
@@ -17,7 +16,7 @@ overflow_add-count c =
 pub loop-i-preserved : goal.loop-i-preserved
 loop-i-preserved c =
     let l = c.loop-i in
-    rw c.put.ensures
+    rw (c.put.ensures, c.from.ensures, c.from-in-loop-i.ensures, c.from-in-loop-i-2.ensures)
     (pass _ _ _ l.invariant (omega arith) c.slot_sound-well.ensures c.is_live-lives.ensures c.one_if.ensures.value c.used_with-used.ensures)
 
 pub returns : goal.returns
