@@ -21,9 +21,10 @@ use Rattle.tasks.proofs.Laws.{columns-fit, meets-share, share-meets}
 use Rattle.slots.specs.Slots.{live_in, slot_sound, together, sound}
 use Rattle.slots.proofs.Soundness.{SoundTask, task-out, Together, together-sym, pairs-in, pairs-out}
 use Rattle.live.specs.Live.{id_at, slot_at, task_at, OnDevice}
-use Rattle.live.specs.Kept.{Stands}
+use Rattle.live.specs.Kept.{Stands, Kept}
 use Rattle.live.proofs.Planned.{entry-id, entry-task, entries-device}
 use Rattle.live.proofs.Standing.{exchanged-stands}
+use Rattle.std.proofs.Common.{None, Some}
 use Rattle.survey.specs.declared.Findings.{Findings}
 use Rattle.survey.specs.Survey.{Surveyed}
 use Rattle.sorting.specs.Sorting.{Sorted as InOrder}
@@ -176,62 +177,70 @@ module _ (D : Device) (now : ℕ) (ks : List Task) (n : ℕ) (rows : List ℕ) (
               go (no z) (yes d) = absurd (omega (arith, p.2, q.2, ap (slot_at rows) d))
               go (no z) (no d) = together-sym (task q.0) (task p.0) (free q.0 p.0 (omega arith) p.1)
 
--- WHAT WAS FOUND IS SOUND exactly if device, clock and slots are, and then by the pairs
-module _ (D : Device) (now : ℕ) (ks : List Task) (raw : List ℕ) (v : Findings) (o : Surveyed D now ks raw v) where
-  sound-not : (device_fits D && leb now last_instant && v.sound) ≡ false → sound D now ks ≡ false
-  unfolding sound
-  sound-not e = rw (o.slots, ← o.sound) (none (device_fits D && leb now last_instant) v.sound e)
-    where
-      none : (a s : Bool) → (a && s) ≡ false → (a && true && s && pairwise? together (live_in ks)) ≡ false
-      none true true q = absurd (subst T q tt)
-      none true false q = refl
-      none false s q = refl
+-- NOT SOUND: a slot by itself, the device or the clock
+module _ (D : Device) (now : ℕ) (ks : List Task) (raw : List ℕ) where
+  fails : (a s p : Bool) → (a && s) ≡ false → (a && true && s && p) ≡ false
+  fails true true p q = absurd (subst T q tt)
+  fails true false p q = refl
+  fails false s p q = refl
 
-  -- THE TEST, where something before the pairs fails
-  pub tested-not : {rows : List ℕ} → length rows ≡ 384 → (device_fits D && leb now last_instant && v.sound) ≡ false
-      → Tested D now ks rows (record { count = v.count; used = v.used; sound = false })
-  tested-not z e = record {
+  pub tested-slots : Surveyed D now ks raw None → {rows : List ℕ} → length rows ≡ 384 → Tested D now ks rows None
+  unfolding sound
+  tested-slots o z = record {
     size = z;
     slots = o.slots;
-    few = o.few;
-    used = o.used;
-    sound = sym (sound-not e);
-    kept = λ q. absurd (true≢false (sym q));
+    sound = sym (rw (o.slots, ← o.sound) (fails (device_fits D && leb now last_instant) false _ (and-false (device_fits D && leb now last_instant))));
+    used = λ v q. cc;
+    kept = λ v q. cc;
   }
+    where
+      and-false : (a : Bool) → (a && false) ≡ false
+      and-false true = refl
+      and-false false = refl
 
-  -- where nothing does, the table sorted stands for the slots
-  module _ (e : (device_fits D && leb now last_instant && v.sound) ≡ true) {rows : List ℕ} (s : InOrder v.count raw rows) where
-    passed : T (device_fits D && leb now last_instant && v.sound)
-    passed = rw e tt
-
-    fits : T (device_fits D && leb now last_instant)
-    fits = and_l (device_fits D && leb now last_instant) v.sound passed
-
-    good : T (all? (slot_sound D now) ks)
-    good = subst T o.sound (and_r (device_fits D && leb now last_instant) v.sound passed)
-
-    stands : Stands 64 ks v.count rows
-    stands = exchanged-stands (o.stands good) s.exchanged
-
-    pub sorted-device : OnDevice 256 v.count rows
-    sorted-device =
-        on-widest D now ks v.count rows stands good
-        (columns-fit D (and_l (device_fits D) (leb now last_instant) fits))
-
-    -- and by the pairs
-    pub tested-pairs : {differ apart : Bool} → differ ≡ pairwise? (λ i j. not (eqb (id_at rows i) (id_at rows j))) (range 0 v.count) → Judged v.count rows apart
-        → Tested D now ks rows (record { count = v.count; used = v.used; sound = differ && apart })
+  module _ (v : Findings) (o : Surveyed D now ks raw (Some v)) where
+    pub tested-off : (device_fits D && leb now last_instant) ≡ false → {rows : List ℕ} → length rows ≡ 384 → Tested D now ks rows None
     unfolding sound
-    tested-pairs {differ} {apart} d q = record {
-      size = s.size;
+    tested-off e z = record {
+      size = z;
       slots = o.slots;
-      few = o.few;
-      used = o.used;
-      sound = found;
-      kept = λ z. record { good = sym found ∙ z; stands = stands; falling = s.falling };
+      sound = sym (rw (o.slots, ← o.sound) (fails (device_fits D && leb now last_instant) true _ (and-true (device_fits D && leb now last_instant) ∙ e)));
+      used = λ v q. cc;
+      kept = λ v q. cc;
     }
-      where
+
+    -- where neither fails, the table sorted stands for the slots
+    module _ (e : (device_fits D && leb now last_instant) ≡ true) {rows : List ℕ} (s : InOrder v.count raw rows) where
+      fits : T (device_fits D && leb now last_instant)
+      fits = rw e tt
+
+      good : T (all? (slot_sound D now) ks)
+      good = rw (← o.sound) tt
+
+      stands : Stands 64 ks v.count rows
+      stands = exchanged-stands (o.stands v refl) s.exchanged
+
+      pub sorted-device : OnDevice 256 v.count rows
+      sorted-device =
+          on-widest D now ks v.count rows stands good
+          (columns-fit D (and_l (device_fits D) (leb now last_instant) fits))
+
+      -- and the pairs decide
+      module _ {differ apart : Bool} (d : differ ≡ pairwise? (λ i j. not (eqb (id_at rows i) (id_at rows j))) (range 0 v.count)) (q : Judged v.count rows apart) where
         found : (differ && apart) ≡ sound D now ks
+        unfolding sound
         found =
             rw (is_true (device_fits D && leb now last_instant) fits, o.slots, is_true (all? (slot_sound D now) ks) good)
             (pairs-same D now ks v.count rows stands good d q)
+
+        pub tested-sound : (differ && apart) ≡ true → Tested D now ks rows (Some v)
+        tested-sound z = record {
+          size = s.size;
+          slots = o.slots;
+          sound = sym z ∙ found;
+          used = o.used;
+          kept = λ w y. let x : v ≡ w = cc in subst (λ u. Kept D now ks u.count rows) x (record { good = sym found ∙ z; stands = stands; falling = s.falling });
+        }
+
+        pub tested-clash : (differ && apart) ≡ false → Tested D now ks rows None
+        tested-clash z = record { size = s.size; slots = o.slots; sound = sym z ∙ found; used = λ v q. cc; kept = λ v q. cc }

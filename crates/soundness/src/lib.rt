@@ -74,25 +74,22 @@ fn none_meets(live: &Live, n: usize) -> bool
     true
 }
 
-// The live tasks of a board where it is sound, the last to finish first: the survey of the slots, and whether they make a sound board: device
-// and clock, each slot, each pair of live tasks.
-pub fn test(on: Device, clock: u32, tasks: [Task; 64], live: &mut Live) -> Findings
+// The live tasks of a board where it is sound, the last to finish first, and what the survey found of them; none where it is not sound:
+// device and clock, each slot, each pair of live tasks.
+pub fn test(on: Device, clock: u32, tasks: [Task; 64], live: &mut Live) -> Option<Findings>
     requires { length live.old ≡ 384 }
     ensures { Tested on clock tasks live.new result }
 {
     let mut raw = [0u32; 384];
-    let v = survey::survey(on, clock, tasks, &mut raw);
+    let v = survey::survey(on, clock, tasks, &mut raw)?;
     let fits = tasks::device_fits(on);
-    if !(fits & (clock <= tasks::LAST_INSTANT) & v.sound) {
-        return Findings { sound: false, ..v };
+    if !(fits & (clock <= tasks::LAST_INSTANT)) {
+        return None;
     }
     sorting::sort(&raw, v.count, live);
     let differ = ids_differ(live, v.count);
     let apart = none_meets(live, v.count);
-    Findings {
-        sound: differ & apart,
-        ..v
-    }
+    if differ & apart { Some(v) } else { None }
 }
 
 // The same with the words of their columns.
@@ -102,15 +99,13 @@ pub fn stand<'a>(
     tasks: [Task; 64],
     live: &'a mut Live,
     masks: &'a mut Masks,
-) -> Findings
+) -> Option<Findings>
     requires { (length live.old ≡ 384) × (length masks.old ≡ 256) }
     ensures { Stood on clock tasks live.new masks.new result }
 {
-    let v = test(on, clock, tasks, live);
-    if v.sound {
-        sorting::mark(live, v.count, masks);
-    }
-    v
+    let v = test(on, clock, tasks, live)?;
+    sorting::mark(live, v.count, masks);
+    Some(v)
 }
 
 // Whether the slots make a sound board.
@@ -118,6 +113,5 @@ pub fn is_sound(on: Device, clock: u32, tasks: [Task; 64]) -> bool
     ensures { result ≡ sound on clock tasks }
 {
     let mut live = [0u32; 384];
-    let v = test(on, clock, tasks, &mut live);
-    v.sound
+    test(on, clock, tasks, &mut live).is_some()
 }

@@ -22,6 +22,7 @@ use Rattle.live.specs.Live.{at, number, put_from}
 use Rattle.live.specs.Kept.{Stands, InUse}
 use Rattle.live.proofs.Putting.{six, put-length, put-here, put_other}
 use Rattle.live.proofs.Standing.{no-slots, slot-skipped, slot-taken}
+use Rattle.std.proofs.Common.{None, Some}
 use Rattle.survey.specs.Survey.{Surveyed}
 
 -- the numbers that the survey puts of slot i
@@ -120,15 +121,27 @@ module _ (D : Device) (now : ℕ) (ks : List Task) where
           rw z (slot-skipped before h (put_from 0 rows n (numbers_of k i)) other e)
 
   -- AFTER THE LAST
-  pub end : {rows : List ℕ} {n used : ℕ} {sound : Bool} {i : ℕ} → Passed rows n used sound i → i ≡ 64
-      → Surveyed D now ks rows (record { count = n; used = used; sound = sound })
-  end {rows} {n} {used} {sound} {i} p e =
-      let t : take i ks ≡ ks = take_all i ks (omega (arith, p.slots)) in
-      record {
-        size = p.size;
-        slots = p.slots;
-        few = omega (arith, p.below);
-        used = subst (λ m. InUse m ks used) e p.taken;
-        sound = p.sounds ∙ ap (all? (slot_sound D now)) t;
-        stands = λ h. rw e at (p.stands (rw t h));
-      }
+  module _ {rows : List ℕ} {n used : ℕ} {sound : Bool} {i : ℕ} (p : Passed rows n used sound i) (e : i ≡ 64) where
+    whole : take i ks ≡ ks
+    whole = take_all i ks (omega (arith, p.slots))
+
+    every : sound ≡ all? (slot_sound D now) ks
+    every = p.sounds ∙ ap (all? (slot_sound D now)) whole
+
+    pub end-sound : sound ≡ true → Surveyed D now ks rows (Some (record { count = n; used = used }))
+    end-sound s = record {
+      size = p.size;
+      slots = p.slots;
+      sound = sym s ∙ every;
+      used = λ v q. let z : used ≡ v.used = cc in subst (λ u. InUse 64 ks u) z (subst (λ m. InUse m ks used) e p.taken);
+      stands = λ v q. let z : n ≡ v.count = cc in subst (λ m. Stands 64 ks m rows) z (rw e at (p.stands (rw (← p.sounds, s) tt)));
+    }
+
+    pub end-unsound : sound ≡ false → Surveyed D now ks rows None
+    end-unsound s = record {
+      size = p.size;
+      slots = p.slots;
+      sound = sym s ∙ every;
+      used = λ v q. cc;
+      stands = λ v q. cc;
+    }

@@ -9,12 +9,11 @@ ghost use Rattle.survey.specs.Survey.{Surveyed};
 use live::Live;
 use tasks::{Device, Task};
 
-// How many live tasks there are, which slots are theirs, and whether the slots are sound.
+// How many live tasks there are, and which slots are theirs.
 #[derive(Clone, Copy)]
 pub struct Findings {
     pub count: usize,
     pub used: u64,
-    pub sound: bool,
 }
 
 // The slots in use, slot i too where it is live.
@@ -28,8 +27,8 @@ fn used_with(used: u64, i: u32, on: bool) -> u64
     used
 }
 
-// The survey of the slots. Each slot is put at `count`, and `count` goes past it only where it is live: no branch to miss.
-pub fn survey(on: Device, clock: u32, tasks: [Task; 64], live: &mut Live) -> Findings
+// The survey of the slots, none where one of them is not sound. Each slot is put at `count`, and `count` goes past it only where it is live: no branch to miss.
+pub fn survey(on: Device, clock: u32, tasks: [Task; 64], live: &mut Live) -> Option<Findings>
     requires { length live.old ≡ 384 }
     ensures { Surveyed on clock tasks live.new result }
 {
@@ -53,5 +52,9 @@ pub fn survey(on: Device, clock: u32, tasks: [Task; 64], live: &mut Live) -> Fin
         count += lists::one_if(lives) as usize;
         used = used_with(used, i as u32, lives);
     }
-    Findings { count, used, sound }
+    if sound {
+        Some(Findings { count, used })
+    } else {
+        None
+    }
 }

@@ -1,5 +1,5 @@
 -- `soundness::ids_differ` meets its contract: what is left of the pairs decides. Assumes nothing.
-use Prim.Native.Nat.{ℕ, ◌-◌, ◌≤◌}
+use Prim.Native.Nat.{ℕ, ◌-◌}
 use mathlib.Core.Path.{◌≡◌}
 use mathlib.Core.Bool.{Bool, not}
 use mathlib.Core.List.{List}
@@ -13,4 +13,4 @@ abbrev pub apart? : List ℕ → ℕ → ℕ → Bool
 apart? live i n = pairwise? (λ a b. not (eqb (id_at live a) (id_at live b))) (range i (n - i))
 
 abbrev pub invariant-loop-i : goal.invariant-loop-i
-invariant-loop-i l = (l.i ≤ l.n) × (apart? l.live 0 l.n ≡ apart? l.live l.i l.n)
+invariant-loop-i l = (apart? l.live 0 l.n ≡ apart? l.live l.i l.n)

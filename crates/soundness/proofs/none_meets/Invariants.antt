@@ -1,5 +1,4 @@
 -- `soundness::none_meets` meets its contract: the tasks take their columns, the last to finish first. Assumes nothing.
-use Prim.Native.Nat.{◌-◌}
 use Rattle.soundness.proofs.Row.{RowTo}
 use Rattle.soundness.proofs.none_meets.Given as goal
 

@@ -1,6 +1,4 @@
 -- `soundness::same_ids` meets its contract: none was counted exactly if every later task has another id. Assumes nothing.
-use Prim.Native.Nat.{◌-◌}
-use mathlib.Core.Path.{◌≡◌}
 use native.Mathlib.Omega.{arith}
 use Rattle.soundness.proofs.Pairs.{count_none, count-one}
 use Rattle.soundness.proofs.same_ids.Goals as goal
@@ -11,9 +9,3 @@ loop-j-init c = count_none _ _ _ (omega arith)
 pub loop-j-preserved : goal.loop-j-preserved
 loop-j-preserved c =
     count-one c.loop-j.invariant (omega arith) c.one_if-hits.ensures.value
-
-pub returns : goal.returns
-returns c =
-    let l = c.loop-j in
-    let e : l.j ≡ c.args.n = omega (arith, l.invariant.upto) in
-    rw (← e) l.invariant.none

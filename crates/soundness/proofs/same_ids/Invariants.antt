@@ -1,5 +1,4 @@
 -- `soundness::same_ids` meets its contract: none was counted exactly if every later task has another id. Assumes nothing.
-use Prim.Native.Nat.{◌-◌}
 use lib.Dec.{eqb}
 use Rattle.live.specs.Live.{id_at}
 use Rattle.soundness.proofs.Pairs.{CountedTo}

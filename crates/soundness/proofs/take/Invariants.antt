@@ -1,5 +1,4 @@
 -- `soundness::take` meets its contract: the columns are taken one by one. Assumes nothing.
-use Prim.Native.Nat.{◌-◌}
 use Rattle.soundness.proofs.Row.{TakenTo}
 use Rattle.soundness.proofs.take.Given as goal
 

@@ -2,7 +2,7 @@
 use borrow.Author.Rules.{rules}
 use native.Mathlib.Omega.{arith}
 use Rattle.words.proofs.Digits.{bit-of-zero}
-use Rattle.survey.proofs.Passed.{begin, pass, end}
+use Rattle.survey.proofs.Passed.{begin, pass, end-sound, end-unsound}
 use Rattle.survey.proofs.survey.Goals as goal
 
 pub loop-i-init : goal.loop-i-init
@@ -19,5 +19,8 @@ loop-i-preserved c =
     rw (c.put.ensures, c.from.ensures, c.from-in-loop-i.ensures, c.from-in-loop-i-2.ensures)
     (pass _ _ _ l.invariant (omega arith) c.slot_sound-well.ensures c.is_live-lives.ensures c.one_if.ensures.value c.used_with-used.ensures)
 
-pub returns : goal.returns
-returns c = end _ _ _ c.loop-i.invariant (omega arith)
+pub returns-then-sound : goal.returns-then-sound
+returns-then-sound c = end-sound _ _ _ c.loop-i.invariant (omega arith) c.if-sound.true
+
+pub returns-else-sound : goal.returns-else-sound
+returns-else-sound c = end-unsound _ _ _ c.loop-i.invariant (omega arith) c.if-sound.false
