@@ -47,7 +47,7 @@ pub fn marked(words: [u64; 4], first: u32, past: u32) -> [u64; 4]
 pub fn count(words: [u64; 4]) -> u32
     ensures { result ≡ length (keep (column words) (range 1 256)) }
 {
-    words[0].count_ones() + words[1].count_ones() + words[2].count_ones() + words[3].count_ones()
+    words.iter().map(|word| word.count_ones()).sum()
 }
 
 // The least digit from `from` on that is set, or 64.
