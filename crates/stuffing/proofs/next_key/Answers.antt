@@ -21,19 +21,22 @@ one_more keys m after best over r o h p q e = record { past = omega arith; least
     is (no l) (inr b) = inr (b.0, omega (arith, b.1), omega (arith, b.2))
 
 pub loop-i-init : goal.loop-i-init
-loop-i-init c = (omega arith, omega arith, record { past = omega arith; least = λ i h. absurd (omega arith); one = inl (omega arith) })
+loop-i-init c = (omega arith, record { past = omega arith; least = λ i h. absurd (omega arith); one = inl (omega arith) })
 
 pub loop-i-preserved : goal.loop-i-preserved
 loop-i-preserved c =
     let l = c.loop-i in
-    let w = c.wrapping_sub_u32 in (
-      omega arith,
-      omega arith,
-      one_more _ l.i _ l.best w.result c.lesser-best.result l.invariant.2 l.invariant.1 (omega arith) w.ensures.value c.lesser-best.ensures,
-    )
+    let over = (get_or c.args.keys.now l.i 0 + (4294967296 - (c.args.after + 1))) % 4294967296 in
+    let h : get_or c.args.keys.now l.i 0 < 4294967296 = c.fits-keys l.i in
+    (omega arith, one_more _ l.i _ l.best over c.min-best.result l.invariant.1 l.invariant.0 (omega arith) (omega arith) (omega arith))
 
-pub returns : goal.returns
-returns c =
-    let l = c.loop-i in
-    let e : l.i ≡ c.args.m = omega (arith, l.invariant.0) in
-    rw (← e) l.invariant.2
+pub returns-then-best-from : goal.returns-then-best-from
+returns-then-best-from c =
+    let e : c.loop-i.i ≡ c.args.m = omega arith in
+    (omega arith, rw (← e) c.loop-i.invariant.1)
+
+pub returns-else-best-from : goal.returns-else-best-from
+returns-else-best-from c =
+    let e : c.loop-i.i ≡ c.args.m = omega arith in
+    let z : c.args.after + 1 + c.loop-i.best ≡ never = omega arith in
+    rw (← e, ← z) c.loop-i.invariant.1
