@@ -76,8 +76,8 @@ fn next_key(keys: &[u32; 129], m: usize, after: u32) -> Option<u32>
 {
     let from = after + 1;
     let mut best = lists::NONE - from;
-    for i in 0..m {
-        best = best.min(keys[i].wrapping_sub(from));
+    for key in &keys[..m] {
+        best = best.min(key.wrapping_sub(from));
     }
     if best < lists::NONE - from {
         Some(from + best)

@@ -4,5 +4,5 @@ use Rattle.lists.specs.Lists.{never}
 use Rattle.stuffing.specs.Fit.{NextKey}
 use Rattle.stuffing.proofs.next_key.Given as goal
 
-abbrev pub invariant-loop-i : goal.invariant-loop-i
-invariant-loop-i l = (l.from + l.best ≤ never) × NextKey l.keys l.i l.after (l.from + l.best)
+abbrev pub invariant-loop-key : goal.invariant-loop-key
+invariant-loop-key l = (l.from + l.best ≤ never) × NextKey l.keys l.key-index l.after (l.from + l.best)
