@@ -256,15 +256,15 @@ module _ (held fit : List ℕ) where
         far q e = let k = e.longest.lies in omega (arith, (o.weighed apart).least q e (omega (arith, k.high, k.not-empty)), (key_counts (omega arith) k).1)
 
     -- THE LEAST KEY'S LEFT EDGE
-    pub stands_one : {at best r : ℕ} → Stands at best → 257 ≤ at → best < never → r ≡ left_of best → Picked (column fit) w rs r
+    pub stands_one : {at best r : ℕ} → Stands at best → 257 ≤ at → best < never → r ≡ left_of best → (1 ≤ r) × Picked (column fit) w rs r
     stands_one {at} {best} {r} o h l i = go (o.weighed apart).one
       where
-        go : (best ≡ never) ⊎ ((q : Run) × Edge q × (key q ≡ best)) → Picked (column fit) w rs r
+        go : (best ≡ never) ⊎ ((q : Run) × Edge q × (key q ≡ best)) → (1 ≤ r) × Picked (column fit) w rs r
         go (inl z) = absurd (omega arith)
         go (inr (q, e, z)) =
             let k = e.longest.lies in
             let c : q.left ≡ r = sym (key_left (omega arith) k) ∙ ap left_of z ∙ sym i in
-            record { none = λ y. absurd (omega (arith, k.low)); one = λ y. (q, c, first) }
+            (omega (arith, k.low), record { none = λ y. absurd (omega (arith, k.low)); one = λ y. (q, c, first) })
           where
             lesser : (x : Run) → key x < key q → Edge x → ⊥
             lesser x b f = let j = f.longest.lies in omega (arith, (o.weighed apart).least x f (omega (arith, j.high, j.not-empty)))

@@ -1,5 +1,5 @@
 -- The run whose left edge is taken: code-level definitions; no promise of a public call cites them. Assumes nothing.
-use Rattle.std.specs.Prelude.{ℕ, ◌+◌, ◌≤◌, ◌<◌, ◌≡◌, Bool, true, false, List, []}
+use Rattle.std.specs.Prelude.{ℕ, ◌+◌, ◌≤◌, ◌<◌, ◌≡◌, Bool, true, false, List, [], Option as Answer, Some, None}
 use Rattle.std.proofs.Math.Option.{some}
 use Rattle.lists.specs.Lists.{keep, head?}
 use Rattle.columns.specs.Columns.{Run, best_fit}
@@ -17,3 +17,8 @@ pub record Fitting (held fit : List ℕ) (W w : ℕ) : Type 0 where
 pub record Picked (passes : ℕ → Bool) (w : ℕ) (rs : List Run) (r : ℕ) : Type 0 where
   pub none : r ≡ 0 → keep (λ x. passes x.left) (best_fit w rs) ≡ []
   pub one : 1 ≤ r → (x : Run) × (x.left ≡ r) × (head? (keep (λ x. passes x.left) (best_fit w rs)) ≡ some x)
+
+-- the same of an answer, in which None is none
+abbrev pub PickedOr : (ℕ → Bool) → ℕ → List Run → Answer ℕ → Type 0
+PickedOr passes w rs None = Picked passes w rs 0
+PickedOr passes w rs (Some c) = (1 ≤ c) × Picked passes w rs c

@@ -4,7 +4,7 @@
 ghost use Rattle.std.specs.Prelude.{◌≡◌, not, ◌||◌, ℕ, ◌-◌, ◌≤◌, leb};
 ghost use Rattle.words.specs.Words.{column};
 ghost use Rattle.columns.specs.Columns.{columns, runs};
-ghost use Rattle.edges.specs.Edges.{Fitting, Picked};
+ghost use Rattle.edges.specs.Edges.{Fitting, PickedOr};
 
 // Whether a run of clear columns begins at c, a clear one.
 fn is_edge(held: [u64; 4], c: u32) -> bool
@@ -17,10 +17,10 @@ fn is_edge(held: [u64; 4], c: u32) -> bool
     words::next_set(held, c - 1) < c
 }
 
-// Of the runs of clear columns, in best-fit order, the first whose left edge is set in `fit`: its left edge, or 0.
+// Of the runs of clear columns, in best-fit order, the first whose left edge is set in `fit`: its left edge.
 // A column of `fit` is clear, so the search for its run's end begins behind it: the walk goes on whatever is lent.
-pub fn narrowest(held: [u64; 4], fit: [u64; 4]) -> u32
-    ensures { (W w : ℕ) → Fitting held fit W w → Picked (column fit) w (runs (λ c. not (column held c)) (columns W)) result }
+pub fn narrowest(held: [u64; 4], fit: [u64; 4]) -> Option<u32>
+    ensures { (W w : ℕ) → Fitting held fit W w → PickedOr (column fit) w (runs (λ c. not (column held c)) (columns W)) result }
 {
     let mut best = lists::NONE;
     let mut at: u32 = 1;
@@ -29,7 +29,7 @@ pub fn narrowest(held: [u64; 4], fit: [u64; 4]) -> u32
         if c < 257 {
             let to = words::next_set(held, c + 1);
             if is_edge(held, c) {
-                best = lists::lesser(columns::key(c, to), best);
+                best = columns::key(c, to).min(best);
             }
             at = to;
         } else {
@@ -37,8 +37,8 @@ pub fn narrowest(held: [u64; 4], fit: [u64; 4]) -> u32
         }
     }
     if best < lists::NONE {
-        columns::left_of(best)
+        Some(columns::left_of(best))
     } else {
-        0
+        None
     }
 }

@@ -2,7 +2,7 @@
 // that lasts. Reference, Full and the openings stand on it: none ever steps through blocked ticks.
 #![tactic(auto)]
 
-ghost use Rattle.std.specs.Prelude.{◌≡◌, ℕ, ◌+◌, ◌<◌, ◌≤◌, min, slice_index};
+ghost use Rattle.std.specs.Prelude.{◌≡◌, ℕ, ◌+◌, ◌<◌, ◌≤◌, min, slice_index, MatchOption};
 ghost use Rattle.live.specs.Live.{After, Falling, Lent, tasks_of};
 ghost use Rattle.words.specs.Words.{bit};
 ghost use Rattle.held.specs.Held.{Edge, Held, HeldWord, FirstFree, Unchanged};
@@ -21,42 +21,30 @@ pub fn edge(width: u32) -> [u64; 4]
 fn all_if(holds: bool) -> u64
     ensures { (j : ℕ) → j < 64 → bit result j ≡ holds }
 {
-    if holds { 0xffff_ffff_ffff_ffff } else { 0 }
+    if holds { u64::MAX } else { 0 }
 }
 
-// The first word of the columns of the first n tasks that start before `end`, with those that are set in `word`.
-fn held_word<'a>(live: &'a Live, masks: &'a Masks, n: usize, end: u32, word: u64) -> u64
-    requires { n ≤ 64 }
-    ensures { HeldWord live.now masks.now end 0 n word result }
+// The first K words of the columns of the first n tasks that start before `end`, with those that are set in `edge`: in one pass over
+// the tasks. The other words are those of `edge`.
+fn held_before<'a, const K: usize>(
+    live: &'a Live,
+    masks: &'a Masks,
+    edge: [u64; 4],
+    n: usize,
+    end: u32,
+) -> [u64; 4]
+    requires { (n ≤ 64) × (K ≤ 4) }
+    ensures held { (k : ℕ) → k < K → HeldWord live.now masks.now end k n (slice_index edge k) (slice_index result k) }
+    ensures others { (k : ℕ) → K ≤ k → slice_index result k ≡ slice_index edge k }
 {
-    let mut held = word;
-    let mut i: usize = 0;
-    while i < n {
-        held = held | (all_if(live[live::FROM + i] < end) & masks[i]);
-        i += 1;
+    let mut held = edge;
+    for i in 0..n {
+        let on = all_if(live[live::FROM + i] < end);
+        for k in 0..K {
+            held[k] |= on & masks[64 * k + i];
+        }
     }
     held
-}
-
-// The four words in one pass over the tasks.
-fn held_four<'a>(live: &'a Live, masks: &'a Masks, edge: [u64; 4], n: usize, end: u32) -> [u64; 4]
-    requires { n ≤ 64 }
-    ensures { (k : ℕ) → k < 4 → HeldWord live.now masks.now end k n (slice_index edge k) (slice_index result k) }
-{
-    let mut a = edge[0];
-    let mut b = edge[1];
-    let mut c = edge[2];
-    let mut d = edge[3];
-    let mut i: usize = 0;
-    while i < n {
-        let on = all_if(live[live::FROM + i] < end);
-        a = a | (on & masks[i]);
-        b = b | (on & masks[64 + i]);
-        c = c | (on & masks[128 + i]);
-        d = d | (on & masks[192 + i]);
-        i += 1;
-    }
-    [a, b, c, d]
 }
 
 // The columns that a task holds at one of the e ticks from t on, and those past the width; the first n tasks are those that finish
@@ -74,31 +62,27 @@ pub fn held_words<'a>(
     ensures { (count : ℕ) → Lent width count live.now masks.now → After live.now count t n → Held width t e (tasks_of count live.now) result }
 {
     if width <= 64 {
-        return [
-            held_word(live, masks, n, t + e, edge[0]),
-            edge[1],
-            edge[2],
-            edge[3],
-        ];
+        held_before::<1>(live, masks, edge, n, t + e)
+    } else {
+        held_before::<4>(live, masks, edge, n, t + e)
     }
-    held_four(live, masks, edge, n, t + e)
 }
 
-// The least column after `from` that begins w clear columns, or 0.
-pub fn first_free(words: [u64; 4], from: u32, w: u32) -> u32
+// The least column after `from` that begins w clear columns.
+pub fn first_free(words: [u64; 4], from: u32, w: u32) -> Option<u32>
     requires { (from ≤ 256) × (1 ≤ w) × (w ≤ 256) }
-    ensures { FirstFree words from w result }
+    ensures { MatchOption result (FirstFree words from w 0) (λ c. (0 < c) × FirstFree words from w c) }
 {
     let mut at = from + 1;
     while at + w <= 257 {
         let clear = words::next_clear(words, at);
         let set = words::next_set(words, clear);
         if clear + w <= set {
-            return clear;
+            return Some(clear);
         }
         at = set;
     }
-    0
+    None
 }
 
 // The next instant from which a stay of e ticks may meet other tasks than from t on: one has finished, or one has come into the stay.
@@ -110,11 +94,9 @@ pub fn next_change(live: &Live, n: usize, t: u32, e: u32) -> u32
 {
     let from = t + 1;
     let stay = t + e;
-    let mut best: u32 = lists::NONE - from;
-    let mut i: usize = 0;
-    while i < n {
-        best = lists::lesser(std::num::wrapping_sub_u32(live[live::FROM + i], stay), best);
-        i += 1;
+    let mut best = lists::NONE - from;
+    for i in 0..n {
+        best = best.min(live[live::FROM + i].wrapping_sub(stay));
     }
-    lists::lesser(from + best, live::next_finish(live, n))
+    (from + best).min(live::next_finish(live, n))
 }

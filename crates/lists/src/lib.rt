@@ -18,5 +18,5 @@ pub fn one_if(holds: bool) -> u32
     ensures value { result ≡ cond holds 1 0 }
     ensures upper_bound { result ≤ 1 }
 {
-    if holds { 1 } else { 0 }
+    u32::from(holds)
 }

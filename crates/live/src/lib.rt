@@ -30,12 +30,10 @@ pub fn after(live: &Live, n: usize, t: u32) -> usize
     requires { n ≤ 64 }
     ensures { After live.now n t result }
 {
-    let mut k = n;
-    while 0 < k {
-        if t < live[FINISH + (k - 1)] {
-            return k;
+    for k in (0..n).rev() {
+        if t < live[FINISH + k] {
+            return k + 1;
         }
-        k -= 1;
     }
     0
 }

@@ -16,6 +16,7 @@ fn put_steps(buffer: &mut [u32], at: usize, t: u32, from: u32, to: u32, step: u3
     requires { ((k : ℕ) × (to ≡ from + k * step) × (at + 2 * k ≤ length buffer.old)) × (1 ≤ step) × (to ≤ 512) }
     ensures { (k : ℕ) → to ≡ from + k * step → (result ≡ at + 2 * k) × (buffer.new ≡ sets buffer.old at (pair_numbers (run_at t step from k))) }
 {
+    // Stays: two numbers go on here, each by a step of its own, and stored so four openings go out at a time.
     let mut i = at;
     let mut c = from;
     while c < to {
@@ -43,20 +44,14 @@ pub fn stop(from: u32, to: u32, room: usize, step: u32) -> u32
     requires { (1 ≤ step) × (step ≤ 256) × (from ≤ 256) × (from < to) × (to ≤ from + 256) × (1 ≤ room) }
     ensures { (k : ℕ) → to ≡ from + k * step → Stopped from to room step result }
 {
-    if room < 256 {
-        let reach = from + room as u32 * step;
-        if reach < to {
-            return reach;
-        }
-    }
-    to
+    (from + room.min(256) as u32 * step).min(to)
 }
 
 // The first tick to look at: none before now.
 pub fn from_tick(clock: u32, s: u32) -> u32
     ensures { result ≡ max clock s }
 {
-    if s < clock { clock } else { s }
+    clock.max(s)
 }
 
 // The column after which to look there, rounded up to the grid: no task begins between. No task begins past the device's last column.
@@ -65,14 +60,10 @@ pub fn from_column(clock: u32, s: u32, c: u32, width: u32, step: u32) -> u32
     ensures { (s < clock → result ≡ 0) × (clock ≤ s → Rounded step (min c width) result) }
 {
     if s < clock {
-        return 0;
+        0
+    } else {
+        c.min(width).next_multiple_of(step)
     }
-    let last = if c < width { c } else { width };
-    let over = last % step;
-    if over == 0 {
-        return last;
-    }
-    last + (step - over)
 }
 
 // Where to look when nothing more is open at t after a column; the first n tasks are those that finish after t.
@@ -81,7 +72,8 @@ pub fn next_tick(live: &Live, n: usize, t: u32, column: u32) -> u32
     ensures { (count : ℕ) → Falling count live.now → After live.now count t n → NextTick live.now count t column result }
 {
     if 0 < column {
-        return t + 1;
+        t + 1
+    } else {
+        live::next_finish(live, n)
     }
-    live::next_finish(live, n)
 }

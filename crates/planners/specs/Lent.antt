@@ -1,5 +1,5 @@
 -- What a planner is asked, and the place as the code answers it: code-level definitions; no promise of a public call cites them. Assumes nothing.
-use Rattle.std.specs.Prelude.{ℕ, ◌+◌, ◌*◌, ◌≤◌, ◌<◌, List, map, T}
+use Rattle.std.specs.Prelude.{ℕ, ◌+◌, ◌*◌, ◌≤◌, ◌<◌, List, map, T, Option as Answer, Some, None}
 use Rattle.std.proofs.Math.Option.{Option, none, some}
 use Rattle.lists.specs.Lists.{◌∈◌, range}
 use Rattle.ways.specs.Ways.{pair}
@@ -7,15 +7,14 @@ use Rattle.tasks.specs.declared.Submission.{Submission}
 use Rattle.tasks.specs.declared.Task.{Task}
 use Rattle.tasks.specs.Numbers.{last_instant, multiple, may_begin}
 use Rattle.tasks.specs.Tasks.{past}
-use Rattle.planners.specs.declared.Found.{Found}
-use Rattle.planners.specs.declared.Found.TheVariants.{Nothing, At}
+use Rattle.planners.specs.declared.Place.{Place as FoundPlace}
 use Rattle.planners.specs.declared.Window.{Window}
 use Rattle.planners.specs.Openings.{Place}
 
 -- a place as the code answers it
-abbrev pub found_of : Option Place → Found
-found_of none = Nothing
-found_of (some p) = At p.place p.start
+abbrev pub found_of : Option Place → Answer FoundPlace
+found_of none = None
+found_of (some p) = Some (record { column = p.place; start = p.start })
 
 -- what is asked fits the device, and the window of its starts is not empty
 pub record Fits (q : Window) : Type 0 where

@@ -2,11 +2,11 @@
 // The planners themselves are in the crates above: each is small enough to be proved again in seconds.
 #![tactic(auto)]
 
-// A place that was found: the column and the start.
+// A place that a planner finds: its first column and the start. Where it finds none it answers None.
 #[derive(Clone, Copy)]
-pub enum Found {
-    Nothing,
-    At { column: u32, start: u32 },
+pub struct Place {
+    pub column: u32,
+    pub start: u32,
 }
 
 // What is asked of a device of `width` columns at `clock`: w columns for e ticks, done by d.

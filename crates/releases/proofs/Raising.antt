@@ -5,11 +5,13 @@ use mathlib.Core.Logic.{◌⊎◌, inl, inr}
 use mathlib.Core.Bool.{Bool, true, false, not, cond, ◌&&◌}
 use mathlib.Core.List.{List, ◌∷◌, map}
 use native.Mathlib.Omega.{arith}
-use native.Mathlib.Decide.{dec_lt, ℕ_discrete as dec_eq}
+use native.Mathlib.Decide.{dec_lt}
 use lib.Dec.{T, leb, ltb}
 use borrow.Author.Tests.{le-leb, lt-leb, lt-ltb, le-ltb}
-use lib.ListN.{length, set, get_or, length-set}
-use lib.Seq.{get_or-set_same, get_or-set_other}
+use lib.ListN.{length, replicate, get_or}
+use Rattle.std.proofs.lemmas.List.{places}
+use borrow.Author.Rules.{rules}
+use borrow.Rule.Slice.PartMut.{put_mid}
 use Rattle.lists.specs.Lists.{◌∈◌, keep, range, highest}
 use Rattle.lists.proofs.Bools.{bool, is_true, is_false}
 use Rattle.lists.proofs.Members.{keep-in, map-in, range-in, highest-from, highest-one}
@@ -31,41 +33,21 @@ raised-left f l r k x a = rw (lt-leb l (suc k) a)
 raised-past : (f l r k x : ℕ) → l ≤ suc k → r ≤ suc k → raised_to f l r k x ≡ x
 raised-past f l r k x a b = rw (le-leb l (suc k) a, le-ltb (suc k) r b)
 
--- the columns from l up to suc k are raised to f, the others stand as they were
-pub record Raised (row₀ row : List ℕ) (f l k : ℕ) : Type 0 where
-  pub room : length row ≡ 256
-  pub from : l ≤ suc k
-  pub same : (j : ℕ) → j < 256 → get_or row j 0 ≡ raised_to f l (suc k) j (get_or row₀ j 0)
-
-pub raise-none : (row : List ℕ) (f l : ℕ) → length row ≡ 256 → 1 ≤ l → Raised row row f l (l - 1)
-raise-none row f l e h = record { room = e; from = omega arith; same = λ j b. sym (still j (dec_lt (suc j) l)) }
+-- the columns from l up to r filled with f are raised to it, the others stand as they were
+pub raise-part : (row : List ℕ) (f l r : ℕ) → length row ≡ 256 → 1 ≤ l → l ≤ r → r ≤ 257
+    → (k : ℕ) → k < 256 → get_or (put_mid (l - 1) (r - 1 - (l - 1)) row (replicate (r - 1 - (l - 1)) f)) k 0 ≡ raised_to f l r k (get_or row k 0)
+raise-part row f l r e p q s k h = go (dec_lt (suc k) l) (dec_lt (suc k) r)
   where
-    still : (j : ℕ) → Dec (suc j < l) → raised_to f l (suc (l - 1)) j (get_or row j 0) ≡ get_or row j 0
-    still j (yes a) = raised-left f l (suc (l - 1)) j (get_or row j 0) a
-    still j (no a) = raised-past f l (suc (l - 1)) j (get_or row j 0) (omega arith) (omega arith)
-
--- ONE COLUMN MORE
-pub raise-one : {row₀ row : List ℕ} {f l k : ℕ} → Raised row₀ row f l k → k < 256 → Raised row₀ (set row k f) f l (k + 1)
-raise-one {row₀} {row} {f} {l} {k} p h = record {
-  room = length-set row k f ∙ p.room;
-  from = omega (arith, p.from);
-  same = λ j b. step j b (dec_eq j k);
-}
-  where
-    step : (j : ℕ) → j < 256 → Dec (j ≡ k) → get_or (set row k f) j 0 ≡ raised_to f l (suc (k + 1)) j (get_or row₀ j 0)
-    step j b (yes z) =
-        rw z (get_or-set_same row k f 0 (omega (arith, p.room)) ∙ sym (raised-in f l (suc (k + 1)) k (get_or row₀ k 0) p.from (omega arith)))
-    step j b (no z) = get_or-set_other row k j f 0 z ∙ p.same j b ∙ more (dec_lt (suc j) l) (dec_lt j k)
-      where
-        more : Dec (suc j < l) → Dec (j < k) → raised_to f l (suc k) j (get_or row₀ j 0) ≡ raised_to f l (suc (k + 1)) j (get_or row₀ j 0)
-        more (yes a) d = raised-left f l (suc k) j (get_or row₀ j 0) a ∙ sym (raised-left f l (suc (k + 1)) j (get_or row₀ j 0) a)
-        more (no a) (yes d) =
-            raised-in f l (suc k) j (get_or row₀ j 0) (omega arith) (omega arith) ∙ sym (raised-in f l (suc (k + 1)) j (get_or row₀ j 0) (omega arith) (omega arith))
-        more (no a) (no d) =
-            raised-past f l (suc k) j (get_or row₀ j 0) (omega arith) (omega arith) ∙ sym (raised-past f l (suc (k + 1)) j (get_or row₀ j 0) (omega arith) (omega arith))
-
-pub raise-all : {row₀ row : List ℕ} {f l r k : ℕ} → Raised row₀ row f l k → suc k ≡ r → (j : ℕ) → j < 256 → get_or row j 0 ≡ raised_to f l r j (get_or row₀ j 0)
-raise-all {row₀} {row} {f} {l} {r} {k} p e j b = p.same j b ∙ ap (λ x. raised_to f l x j (get_or row₀ j 0)) e
+    go : Dec (suc k < l) → Dec (suc k < r) → get_or (put_mid (l - 1) (r - 1 - (l - 1)) row (replicate (r - 1 - (l - 1)) f)) k 0 ≡ raised_to f l r k (get_or row k 0)
+    go (yes a) d =
+        let z : get_or (put_mid (l - 1) (r - 1 - (l - 1)) row (replicate (r - 1 - (l - 1)) f)) k 0 ≡ get_or row k 0 = search (rules, places) in
+        z ∙ sym (raised-left f l r k (get_or row k 0) a)
+    go (no a) (yes b) =
+        let z : get_or (put_mid (l - 1) (r - 1 - (l - 1)) row (replicate (r - 1 - (l - 1)) f)) k 0 ≡ f = search (rules, places) in
+        z ∙ sym (raised-in f l r k (get_or row k 0) (omega arith) b)
+    go (no a) (no b) =
+        let z : get_or (put_mid (l - 1) (r - 1 - (l - 1)) row (replicate (r - 1 - (l - 1)) f)) k 0 ≡ get_or row k 0 = search (rules, places) in
+        z ∙ sym (raised-past f l r k (get_or row k 0) (omega arith) (omega arith))
 
 -- the release of a column where a task stands before the others that finishes no earlier than any of them
 release-first : (now : ℕ) (u : Task) (ts : List Task) (c : ℕ) → release now ts c ≤ finish u → release now (u ∷ ts) c ≡ cond (covers c u) (finish u) (release now ts c)

@@ -15,12 +15,7 @@ fn raise(row: &mut [u32; 256], finish: u32, left: u32, past: u32)
     ensures row_len { length row.new ≡ 256 }
     ensures by_index { (k : ℕ) → k < 256 → get_or row.new k 0 ≡ raised_to finish left past k (get_or row.old k 0) }
 {
-    let mut k = left as usize - 1;
-    let end = past as usize - 1;
-    while k < end {
-        row[k] = finish;
-        k += 1;
-    }
+    row[left as usize - 1..past as usize - 1].fill(finish);
 }
 
 // The row of release times, column 1 first: now, raised to the finishes over each live task's columns, the first to finish first.
@@ -29,9 +24,8 @@ pub fn gather(live: &Live, count: usize, width: u32, clock: u32) -> [u32; 256]
     ensures { (k : ℕ) → k < 256 → get_or result k 0 ≡ release clock (tasks_of count live.now) (suc k) }
 {
     let mut row = [clock; 256];
-    let mut i = live::after(live, count, clock);
-    while 0 < i {
-        i -= 1;
+    let n = live::after(live, count, clock);
+    for i in (0..n).rev() {
         raise(
             &mut row,
             live[live::FINISH + i],
@@ -54,9 +48,8 @@ pub fn press<'a>(
     ensures { Pressed (in_row row.now) width past.new at.new result }
 {
     let mut n: usize = 0;
-    let mut c: u32 = 1;
     let mut x = row[0];
-    while c < width {
+    for c in 1..width {
         let y = row[c as usize];
         past[n] = c + 1;
         at[n] = x;
@@ -64,7 +57,6 @@ pub fn press<'a>(
             n += 1;
         }
         x = y;
-        c += 1;
     }
     past[n] = width + 1;
     at[n] = x;

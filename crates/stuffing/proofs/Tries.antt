@@ -14,7 +14,7 @@ use Rattle.tasks.specs.Numbers.{last_instant}
 use Rattle.columns.specs.Columns.{columns, Run, runs, best_fit, key, left_of}
 use Rattle.columns.proofs.Runs.{Lies, runs-lie}
 use Rattle.columns.proofs.BestFit.{best-rising, fit-in, in-fit, key_left, key_counts}
-use Rattle.planners.specs.declared.Found.TheVariants.{Nothing, At}
+use Rattle.std.specs.Prelude.{Some, None}
 use Rattle.planners.specs.Openings.{Place, ways}
 use Rattle.planners.specs.Planners.{free, left_edge, clear_of_waiting, candidates, stuffing}
 use Rattle.live.specs.Live.{tasks_of, OnDevice, NextFinish}
@@ -136,12 +136,12 @@ module _ (W now n : ℕ) (live : List ℕ) (o : OnDevice W n live) (w e d : ℕ)
   abbrev ts : List Task
   ts = tasks_of n live
 
-  pub stuffs-hit : {t c : ℕ} → Stuffs W now ts w e d t → head? (candidates 1 W now ts (asked w e d) t) ≡ some (pair t c) → At c t ≡ found_of (stuffing 1 W now ts (asked w e d))
+  pub stuffs-hit : {t c : ℕ} → Stuffs W now ts w e d t → head? (candidates 1 W now ts (asked w e d) t) ≡ some (pair t c) → Some (record { column = c; start = t }) ≡ found_of (stuffing 1 W now ts (asked w e d))
   unfolding stuffing
   stuffs-hit v q = sym (ap found_of (visits-hit W now ts (asked w e d) (candidates 1 W now ts (asked w e d)) (map finish ts) v q))
 
   pub stuffs-none : {t u : ℕ} → Stuffs W now ts w e d t → candidates 1 W now ts (asked w e d) t ≡ [] → NextFinish live n t u → d - e < u → e ≤ d
-      → Nothing ≡ found_of (stuffing 1 W now ts (asked w e d))
+      → None ≡ found_of (stuffing 1 W now ts (asked w e d))
   unfolding stuffing
   stuffs-none {t} {u} v q x h g = sym (ap found_of (visits-none W now ts (asked w e d) (candidates 1 W now ts (asked w e d)) (map finish ts) v q (not-before o x) (omega arith)))
 

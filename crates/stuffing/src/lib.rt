@@ -1,7 +1,7 @@
 // Stuffing (Algorithm 2 of the source) over the live tasks that are lent, by the plain method: column by column.
 #![tactic(auto)]
 
-ghost use Rattle.std.specs.Prelude.{◌≡◌, ◌+◌, ◌<◌, ◌≤◌, length, replicate, if◌then◌else◌};
+ghost use Rattle.std.specs.Prelude.{◌≡◌, ◌+◌, ◌<◌, ◌≤◌, length, replicate, if◌then◌else◌, MatchOption};
 ghost use Rattle.lists.specs.Lists.{some?, never};
 ghost use Rattle.planners.specs.Planners.{stuffing};
 ghost use Rattle.live.specs.Live.{OnDevice, Falling, Apart, After, tasks_of};
@@ -9,14 +9,7 @@ ghost use Rattle.planners.specs.Lent.{found_of, Fits, wanted};
 ghost use Rattle.stuffing.specs.Fit.{meets_at, Marked, unheld, Stretches, FirstHeld, Listed, NextKey};
 
 use live::Live;
-use planners::{Found, Window};
-
-// A number of a row, widened: of an element it asks nothing but the index.
-fn wide(x: u16) -> u32
-    ensures { result ≡ x }
-{
-    x as u32
-}
+use planners::{Place, Window};
 
 // A column, or 0, which is none, where the task does not hold it.
 fn column_if(holds: bool, column: u32) -> u32
@@ -32,11 +25,9 @@ fn mark_held(live: &Live, n: usize, t: u32, row: &mut [u16; 257])
     requires { OnDevice 256 n live.now × (row.old ≡ replicate 257 0) }
     ensures { Marked live.now n t row.new }
 {
-    let mut i: usize = 0;
-    while i < n {
+    for i in 0..n {
         let at = column_if(live[live::FROM + i] <= t, live[live::LEFT + i]) as usize;
         row[at] = live[live::PAST + i] as u16;
-        i += 1;
     }
 }
 
@@ -45,15 +36,13 @@ fn first_held(row: &[u16; 257], from: u32, width: u32) -> u32
     requires { (width ≤ 256) × (from ≤ width + 1) }
     ensures { FirstHeld row.now from width result }
 {
-    let mut c = from;
-    while c <= width {
+    for c in from..width + 1 {
         let at = c as usize;
         if row[at] != 0 {
             return c;
         }
-        c += 1;
     }
-    c
+    width + 1
 }
 
 // The keys of the free intervals that are wide enough, from left to right; gives their number. Each is stored, and
@@ -66,11 +55,11 @@ fn list_fits(row: &[u16; 257], width: u32, w: u32, keys: &mut [u32; 129]) -> usi
     let mut from: u32 = 1;
     while from + w <= width + 1 {
         let at = from as usize;
-        let past = wide(row[at]);
+        let past = u32::from(row[at]);
         if past == 0 {
             let to = first_held(row, from + 1, width);
             keys[m] = columns::key(from, to);
-            m += lists::one_if(w <= to - from) as usize;
+            m += usize::from(w <= to - from);
             from = to;
         } else {
             from = past;
@@ -81,18 +70,20 @@ fn list_fits(row: &[u16; 257], width: u32, w: u32, keys: &mut [u32; 129]) -> usi
 
 // The least key after `after`, or none. It is kept as what it lies past `after` + 1: a key up to there wraps to a number too large to count,
 // so that one comparison does for two.
-fn next_key(keys: &[u32; 129], m: usize, after: u32) -> u32
+fn next_key(keys: &[u32; 129], m: usize, after: u32) -> Option<u32>
     requires { (m ≤ 129) × (after < never) }
-    ensures { NextKey keys.now m after result }
+    ensures { MatchOption result (NextKey keys.now m after never) (λ key. (key < never) × NextKey keys.now m after key) }
 {
     let from = after + 1;
-    let mut best: u32 = lists::NONE - from;
-    let mut i: usize = 0;
-    while i < m {
-        best = lists::lesser(std::num::wrapping_sub_u32(keys[i], from), best);
-        i += 1;
+    let mut best = lists::NONE - from;
+    for key in &keys[..m] {
+        best = best.min(key.wrapping_sub(from));
     }
-    from + best
+    if best < lists::NONE - from {
+        Some(from + best)
+    } else {
+        None
+    }
 }
 
 // Whether a stay on w columns from c on, e ticks from t on, shares a column with a task at a tick. Only the first n tasks finish after t.
@@ -112,21 +103,19 @@ fn meets_any(
 {
     let to = c + w;
     let end = t + e;
-    let mut i: usize = 0;
-    while i < n {
+    for i in 0..n {
         if ((c < live[live::PAST + i]) & (live[live::LEFT + i] < to))
             & (live[live::FROM + i] < end)
         {
             return true;
         }
-        i += 1;
     }
     false
 }
 
 // The first candidate without a conflict ends both walks: through the visited times, and through the free intervals of each
 // in best-fit order.
-pub fn find(live: &Live, count: usize, q: Window) -> Found
+pub fn find(live: &Live, count: usize, q: Window) -> Option<Place>
     requires { OnDevice q.width count live.now × Falling count live.now × Apart count live.now × Fits q }
     ensures { result ≡ found_of (stuffing 1 q.width q.clock (tasks_of count live.now) (wanted q)) }
 {
@@ -139,21 +128,17 @@ pub fn find(live: &Live, count: usize, q: Window) -> Found
         mark_held(live, n, t, &mut row);
         let m = list_fits(&row, q.width, q.w, &mut keys);
         let mut after: u32 = 0;
-        'tries: loop {
-            let key = next_key(&keys, m, after);
-            if key == lists::NONE {
-                break 'tries;
-            }
+        'tries: while let Some(key) = next_key(&keys, m, after) {
             let column = columns::left_of(key);
             if meets_any(live, count, n, q.width, column, q.w, t, q.e) {
                 after = key;
             } else {
-                break 'visits Found::At { column, start: t };
+                break 'visits Some(Place { column, start: t });
             }
         }
         let next = live::next_finish(live, n);
         if last < next {
-            break 'visits Found::Nothing;
+            break 'visits None;
         }
         t = next;
         n = live::after(live, n, t);

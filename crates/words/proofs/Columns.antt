@@ -5,10 +5,11 @@ use mathlib.Core.List.{List, [], ◌∷◌}
 use Prim.Native.Nat.{ℕ, zero, suc, ◌+◌, ◌-◌, ◌*◌, ◌/◌, ◌%◌, ◌^◌, ◌≤◌, ◌<◌, min}
 use native.Mathlib.Omega.{arith}
 use native.Mathlib.Decide.{dec_lt}
-use lib.ListN.{get_or}
+use lib.ListN.{get_or, length}
 use lib.Dec.{leb, ltb, leb→le, le→leb, ltb→lt, lt→ltb}
 use lib.Bits.{bit_or}
-use lib.Count.{ones}
+use lib.Count.{ones, ones-le}
+use Rattle.std.specs.List.{sum_by}
 use Rattle.lists.proofs.Bools.{same_bool}
 use Rattle.words.specs.Words.{bit, column, Least}
 use Rattle.words.proofs.Digits.{tally, ones-tally, tally-same, tally-split, bit-of-zero, bit-or, bit_not}
@@ -100,6 +101,16 @@ tally-words ws h =
     (tally-split (column ws) 1 64 64 ∙ ap₂ (λ (x y : ℕ). x + y) (tally-word ws 0 1 refl (h 0)) (tally-word ws 1 65 refl (h 1)))
     (tally-word ws 2 129 refl (h 2)))
     (tally-word ws 3 193 refl (h 3)))
+
+-- the same as one sum over the list, and that is no more than 256
+pub tally-sum : (ws : List ℕ) → length ws ≡ 4 → ((k : ℕ) → get_or ws k 0 < 2 ^ 64) → (sum_by ones ws ≡ tally (column ws) 1 256) × (sum_by ones ws ≤ 256)
+tally-sum (a ∷ b ∷ c ∷ d ∷ []) e h =
+    (omega (arith, tally-words (a ∷ b ∷ c ∷ d ∷ []) h), omega (arith, ones-le 64 a (h 0), ones-le 64 b (h 1), ones-le 64 c (h 2), ones-le 64 d (h 3)))
+tally-sum [] e h = absurd (omega arith)
+tally-sum (a ∷ []) e h = absurd (omega arith)
+tally-sum (a ∷ b ∷ []) e h = absurd (omega arith)
+tally-sum (a ∷ b ∷ c ∷ []) e h = absurd (omega arith)
+tally-sum (a ∷ b ∷ c ∷ d ∷ x ∷ xs) e h = absurd (omega arith)
 
 -- columns passed up to digit k of word i, and then up to its least digit j: passed up to there
 pub passed : (ws : List ℕ) (from i k j : ℕ) → ((c : ℕ) → from ≤ c → c < i * 64 + k + 1 → column ws c ≡ false) → Least (bit (get_or ws i 0)) k 64 j

@@ -11,7 +11,7 @@ fn span(from: u32, to: u32) -> u64
     ensures { (j : ℕ) → bit result j ≡ (leb from j && ltb j to) }
 {
     if from < to {
-        (0xffff_ffff_ffff_ffffu64 >> (64 - (to - from))) << from
+        (u64::MAX >> (64 - (to - from))) << from
     } else {
         0
     }
@@ -21,13 +21,7 @@ fn span(from: u32, to: u32) -> u64
 fn inside(column: u32, low: u32) -> u32
     ensures { result ≡ min (column - low) 64 }
 {
-    if column < low {
-        return 0;
-    }
-    if column - low < 64 {
-        return column - low;
-    }
-    64
+    column.saturating_sub(low).min(64)
 }
 
 // Of the columns from `first` up to, not including, `past`: those in the word that begins at column `low`.
@@ -53,10 +47,7 @@ pub fn marked(words: [u64; 4], first: u32, past: u32) -> [u64; 4]
 pub fn count(words: [u64; 4]) -> u32
     ensures { result ≡ length (keep (column words) (range 1 256)) }
 {
-    u64::count_ones(words[0])
-        + u64::count_ones(words[1])
-        + u64::count_ones(words[2])
-        + u64::count_ones(words[3])
+    words.iter().map(|word| word.count_ones()).sum()
 }
 
 // The least digit from `from` on that is set, or 64.
@@ -64,11 +55,8 @@ pub fn next_in(word: u64, from: u32) -> u32
     requires { from < 64 }
     ensures { Least (bit word) from 64 result }
 {
-    let t = u64::trailing_zeros(word >> from);
-    if t < 64 - from {
-        return from + t;
-    }
-    64
+    let t = (word >> from).trailing_zeros();
+    if t < 64 - from { from + t } else { 64 }
 }
 
 // The least column from `from` on that is set, or 257.
@@ -76,14 +64,13 @@ pub fn next_set(words: [u64; 4], from: u32) -> u32
     requires { (1 ≤ from) × (from ≤ 257) }
     ensures { Least (column words) from 257 result }
 {
-    let mut i = ((from - 1) / 64) as usize;
+    let first = ((from - 1) / 64) as usize;
     let mut k = (from - 1) % 64;
-    while i < 4 {
+    for i in first..4 {
         let j = next_in(words[i], k);
         if j < 64 {
             return (i * 64) as u32 + j + 1;
         }
-        i += 1;
         k = 0;
     }
     257

@@ -21,7 +21,7 @@ pub loop-at-preserved-then-is_edge : goal.loop-at-preserved-then-is_edge
 loop-at-preserved-then-is_edge c =
     let l = c.loop-at in
     stands-edge _ _ l.invariant c.next_set-c.ensures (omega arith) c.next_set-to.ensures
-    (sym c.is_edge.ensures ∙ c.if-is_edge.true) (c.lesser-best.ensures ∙ ap (λ k. min k l.best) c.key.ensures)
+    (sym c.is_edge.ensures ∙ c.if-is_edge.true) (c.min-best.ensures ∙ ap (λ k. min k l.best) c.key.ensures)
 
 pub loop-at-smaller-else-is_edge : goal.loop-at-smaller-else-is_edge
 loop-at-smaller-else-is_edge c =

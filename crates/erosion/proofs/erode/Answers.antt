@@ -21,7 +21,7 @@ loop-have-smaller c =
 pub loop-have-preserved : goal.loop-have-preserved
 loop-have-preserved c =
     let l = c.loop-have in
-    let s = c.lesser-s.result in
+    let s = c.min-s.result in
     let h : s ≤ l.have = search rules in
     (search rules, search rules, eroded-more l.have s _ l.y _ _ h l.invariant.0 l.invariant.2 c.shifted-on.ensures c.both-next.ensures)
 

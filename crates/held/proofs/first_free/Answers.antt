@@ -1,5 +1,5 @@
 -- `held::first_free` meets its contract: from one run of clear columns to the next. Assumes nothing.
-use Rattle.std.proofs.Common.{◌-◌, refl, arith}
+use Rattle.std.proofs.Common.{refl, arith}
 use Rattle.held.proofs.Free.{seek, seek_found, seek-less, seek-on, seek-end}
 use Rattle.held.proofs.first_free.Goals as goal
 
@@ -17,7 +17,7 @@ overflow_add-clear c = omega (arith, c.next_clear-clear.ensures.high)
 
 pub returns-then-clear-w : goal.returns-then-clear-w
 returns-then-clear-w c =
-    seek_found _ _ _ c.loop-at.invariant (omega arith) c.next_clear-clear.ensures c.next_set-set.ensures (omega arith)
+    (omega (arith, c.next_clear-clear.ensures.low), seek_found _ _ _ c.loop-at.invariant (omega arith) c.next_clear-clear.ensures c.next_set-set.ensures (omega arith))
 
 pub loop-at-smaller : goal.loop-at-smaller
 loop-at-smaller c =

@@ -32,17 +32,18 @@ all-tasks live n t e before next r c p b m f count g a =
 
 pub loop-i-init : goal.loop-i-init
 unfolding Comes
-loop-i-init c = (omega arith, omega arith, λ j h. absurd (omega arith))
+loop-i-init c = (omega arith, λ j h. absurd (omega arith))
 
 pub loop-i-preserved : goal.loop-i-preserved
 loop-i-preserved c =
     let l = c.loop-i in
-    let y = c.wrapping_sub_u32 in
-    (omega arith, omega arith, one_more _ l.i _ _ l.best y.result c.lesser-best.result l.invariant.2 (omega arith) y.ensures.value (omega arith) c.lesser-best.ensures)
+    let start : from_at c.args.live.now l.i < 4294967296 = c.fits-live _ in
+    let comes = (from_at c.args.live.now l.i + (4294967296 - (c.args.t + c.args.e))) % 4294967296 in
+    (omega arith, one_more _ l.i _ _ l.best comes c.min-best.result l.invariant.1 (omega arith) (omega arith) (omega arith) (omega arith))
 
 pub returns : goal.returns
 returns c =
     let l = c.loop-i in
     let a = c.args in
-    let e : l.i ≡ a.n = omega (arith, l.invariant.0) in
-    all-tasks _ _ _ _ _ _ _ (rw e at l.invariant.2) (omega arith) (omega arith) c.lesser.ensures c.next_finish.ensures
+    let e : l.i ≡ a.n = omega arith in
+    all-tasks _ _ _ _ _ _ _ (rw e at l.invariant.1) (omega arith) (omega arith) c.min.ensures c.next_finish.ensures

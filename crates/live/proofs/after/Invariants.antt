@@ -4,7 +4,4 @@ use Rattle.live.specs.Live.{finish_at}
 use Rattle.live.proofs.after.Given as goal
 
 abbrev pub invariant-loop-k : goal.invariant-loop-k
-invariant-loop-k l = (l.k ≤ l.n) × ((i : ℕ) → l.k ≤ i → i < l.n → finish_at l.live i ≤ l.t)
-
-abbrev pub decreases-loop-k : goal.decreases-loop-k
-decreases-loop-k l = l.k
+invariant-loop-k l = (i : ℕ) → l.k ≤ i → i < l.n → finish_at l.live i ≤ l.t

@@ -6,5 +6,5 @@ use Rattle.looking.proofs.next_tick.Goals as goal
 pub returns-then-column-gt0 : goal.returns-then-column-gt0
 returns-then-column-gt0 c = λ count f a. record { tick = λ h. refl; finish = λ h. absurd (omega arith) }
 
-pub returns : goal.returns
-returns c = λ count f a. record { tick = λ h. absurd (omega arith); finish = λ h. c.next_finish.ensures count _ f a (omega arith) }
+pub returns-else-column-gt0 : goal.returns-else-column-gt0
+returns-else-column-gt0 c = λ count f a. record { tick = λ h. absurd (omega arith); finish = λ h. c.next_finish.ensures count _ f a (omega arith) }

@@ -1,10 +1,6 @@
 -- `releases::gather` meets its contract: the loop takes the tasks one by one. Assumes nothing.
-use Prim.Native.Nat.{◌-◌, ◌≤◌}
 use Rattle.releases.proofs.Raising.{Released}
 use Rattle.releases.proofs.gather.Given as goal
 
 abbrev pub invariant-loop-i : goal.invariant-loop-i
-invariant-loop-i l = (l.i ≤ l.count) × Released l.live l.clock l.count l.row l.i
-
-abbrev pub decreases-loop-i : goal.decreases-loop-i
-decreases-loop-i l = l.i
+invariant-loop-i l = Released l.live l.clock l.count l.row l.i

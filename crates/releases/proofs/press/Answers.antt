@@ -1,5 +1,4 @@
 -- `releases::press` meets its contract: the loop passes the columns one by one. Assumes nothing.
-use Prim.Native.Nat.{◌-◌}
 use native.Mathlib.Omega.{arith}
 use Rattle.releases.proofs.Pressing.{press-none, press-new, press-on, press-all}
 use Rattle.releases.proofs.press.Goals as goal

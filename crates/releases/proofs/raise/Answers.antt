@@ -1,17 +1,10 @@
--- `releases::raise` meets its contract: the loop raises the columns one by one. Assumes nothing.
-use Prim.Native.Nat.{◌-◌}
-use native.Mathlib.Omega.{arith}
-use Rattle.releases.proofs.Raising.{raise-none, raise-one, raise-all}
+-- `releases::raise` meets its contract: the columns filled are those raised. Assumes nothing.
+use Rattle.std.proofs.Common.{◌≡◌, ◌-◌, replicate, rules, arith}
+use Rattle.releases.proofs.Raising.{raise-part}
 use Rattle.releases.proofs.raise.Goals as goal
 
-pub loop-k-init : goal.loop-k-init
-loop-k-init c = (omega arith, omega arith, raise-none _ _ _ c.requires.0 (omega arith))
-
-pub loop-k-preserved : goal.loop-k-preserved
-loop-k-preserved c = (omega arith, omega arith, raise-one c.loop-k.invariant.2 (omega arith))
-
-pub returns : goal.returns
-returns c = record {
-  row_len = c.loop-k.invariant.2.room;
-  by_index = raise-all c.loop-k.invariant.2 (let z = c.loop-k.invariant.0 in omega arith);
-}
+pub returns-clause-by_index : goal.returns-clause-by_index
+returns-clause-by_index c =
+    let a = c.args in
+    let e : c.fill.new.self ≡ replicate (a.past - 1 - (a.left - 1)) a.finish = search rules in
+    rw e (raise-part a.row.now a.finish a.left a.past c.requires.0 (omega arith) (omega arith) (omega arith))

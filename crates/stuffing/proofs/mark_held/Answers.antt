@@ -1,5 +1,5 @@
 -- `stuffing::mark_held` meets its contract: the tasks are put into the row one by one. Assumes nothing.
-use Rattle.std.proofs.Common.{◌-◌, arith}
+use Rattle.std.proofs.Common.{arith}
 use Rattle.stuffing.proofs.Marks.{mark-none, mark-one, mark-all, put-at}
 use Rattle.stuffing.proofs.mark_held.Goals as goal
 

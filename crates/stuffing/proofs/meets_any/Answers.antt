@@ -1,5 +1,5 @@
 -- `stuffing::meets_any` meets its contract: what is left of the tasks decides. Assumes nothing.
-use Rattle.std.proofs.Common.{◌-◌, arith}
+use Rattle.std.proofs.Common.{arith}
 use Rattle.stuffing.proofs.Steps.{meets-start, meets-hit, meets_on, meets-end}
 use Rattle.stuffing.proofs.meets_any.Goals as goal
 

@@ -1,5 +1,6 @@
 -- `stuffing::next_key` meets its contract: of the keys passed none lies between, and it is one of them or never. Assumes nothing.
-use Rattle.std.proofs.Common.{◌≡◌, ℕ, ◌+◌, ◌-◌, ◌%◌, ◌<◌, ◌≤◌, min, ◌⊎◌, List, get_or, inl, inr, arith}
+use Rattle.std.proofs.Common.{◌≡◌, ℕ, ◌+◌, ◌-◌, ◌%◌, ◌<◌, ◌≤◌, min, ◌⊎◌, List, get_or, inl, inr, arith, take}
+use Rattle.std.proofs.lemmas.List.{get_or-take}
 use native.Mathlib.Decide.{dec_lt, ℕ_discrete as dec_eq}
 use Rattle.lists.specs.Lists.{never}
 use Rattle.stuffing.specs.Fit.{NextKey}
@@ -20,20 +21,24 @@ one_more keys m after best over r o h p q e = record { past = omega arith; least
     is (no l) (inl b) = inl (omega arith)
     is (no l) (inr b) = inr (b.0, omega (arith, b.1), omega (arith, b.2))
 
-pub loop-i-init : goal.loop-i-init
-loop-i-init c = (omega arith, omega arith, record { past = omega arith; least = λ i h. absurd (omega arith); one = inl (omega arith) })
+pub loop-key-init : goal.loop-key-init
+loop-key-init c = (omega arith, record { past = omega arith; least = λ i h. absurd (omega arith); one = inl (omega arith) })
 
-pub loop-i-preserved : goal.loop-i-preserved
-loop-i-preserved c =
-    let l = c.loop-i in
-    let w = c.wrapping_sub_u32 in (
-      omega arith,
-      omega arith,
-      one_more _ l.i _ l.best w.result c.lesser-best.result l.invariant.2 l.invariant.1 (omega arith) w.ensures.value c.lesser-best.ensures,
-    )
+pub loop-key-preserved : goal.loop-key-preserved
+loop-key-preserved c =
+    let l = c.loop-key in
+    let over = (get_or (take c.args.m c.args.keys.now) l.key-index 0 + (4294967296 - (c.args.after + 1))) % 4294967296 in
+    let h : get_or c.args.keys.now l.key-index 0 < 4294967296 = c.fits-keys l.key-index in
+    let same : get_or (take c.args.m c.args.keys.now) l.key-index 0 ≡ get_or c.args.keys.now l.key-index 0 = get_or-take c.args.m _ l.key-index 0 (omega arith) in
+    (omega arith, one_more _ l.key-index _ l.best over c.min-best.result l.invariant.1 l.invariant.0 (omega arith) (omega arith) (omega arith))
 
-pub returns : goal.returns
-returns c =
-    let l = c.loop-i in
-    let e : l.i ≡ c.args.m = omega (arith, l.invariant.0) in
-    rw (← e) l.invariant.2
+pub returns-then-best-from : goal.returns-then-best-from
+returns-then-best-from c =
+    let e : c.loop-key.key-index ≡ c.args.m = omega arith in
+    (omega arith, rw (← e) c.loop-key.invariant.1)
+
+pub returns-else-best-from : goal.returns-else-best-from
+returns-else-best-from c =
+    let e : c.loop-key.key-index ≡ c.args.m = omega arith in
+    let z : c.args.after + 1 + c.loop-key.best ≡ never = omega arith in
+    rw (← e, ← z) c.loop-key.invariant.1

@@ -1,11 +1,8 @@
 -- `stuffing::next_key` meets its contract: of the keys passed none lies between, and it is one of them or never. Assumes nothing.
-use Rattle.std.proofs.Common.{◌+◌, ◌-◌, ◌≤◌}
+use Rattle.std.proofs.Common.{◌+◌, ◌≤◌}
 use Rattle.lists.specs.Lists.{never}
 use Rattle.stuffing.specs.Fit.{NextKey}
 use Rattle.stuffing.proofs.next_key.Given as goal
 
-abbrev pub invariant-loop-i : goal.invariant-loop-i
-invariant-loop-i l = (l.i ≤ l.m) × (l.from + l.best ≤ never) × NextKey l.keys l.i l.after (l.from + l.best)
-
-abbrev pub decreases-loop-i : goal.decreases-loop-i
-decreases-loop-i l = l.m - l.i
+abbrev pub invariant-loop-key : goal.invariant-loop-key
+invariant-loop-key l = (l.from + l.best ≤ never) × NextKey l.keys l.key-index l.after (l.from + l.best)
