@@ -29,9 +29,9 @@ pub struct Wrong {
 fn less_return(line: &[u8]) -> &[u8]
     ensures { result.now ≡ less_return line.now }
 {
-    match line.split_last() {
-        Some((b'\r', front)) => front,
-        _ => line,
+    match line.strip_suffix(b"\r") {
+        Some(front) => front,
+        None => line,
     }
 }
 
@@ -45,6 +45,7 @@ pub fn bare(line: &[u8]) -> &[u8]
 }
 
 // A planner's number, by name or by number, where the word is either.
+#[tactic(auto, unfolding(crate::specs::Lines::planner_of))]
 fn planner(word: &[u8]) -> Option<u8>
     ensures { result ≡ planner_of word.now }
 {
@@ -73,7 +74,7 @@ fn numbers<const N: usize>(
 ) -> Result<[u32; N], Wrong>
     requires few { N ≤ 7 }
     requires one_or_two { before ≤ 2 }
-    ensures { MatchResult result (λ values. Numbers (words text.now) mosts.now values) (λ w. (w.kind ≡ kind) × (w.word ≡ wrong 1 mosts.now (words text.now) + before) × (wrong 1 mosts.now (words text.now) ≢ 0)) }
+    ensures { MatchResult result (λ values. Numbers (words text.now) mosts.now values) (λ w. (w ≡ record { kind = kind; word = wrong 1 mosts.now (words text.now) + before }) × (wrong 1 mosts.now (words text.now) ≢ 0)) }
 {
     match tokens::read_numbers(text, mosts) {
         Ok(values) => Ok(values),
@@ -101,9 +102,9 @@ fn board_line(text: &[u8]) -> Result<Option<Event>, Wrong>
     ensures { result ≡ board_line (words text.now) }
 {
     match tokens::read_numbers(text, &[65535, 65535]) {
-        Ok([columns, rows]) => Ok(Some(Event::NewBoard {
-            columns: columns as u16,
-            rows: rows as u16,
+        Ok(values) => Ok(Some(Event::NewBoard {
+            columns: values[0] as u16,
+            rows: values[1] as u16,
         })),
         Err(3) => grid_line(text),
         Err(word) => Err(Wrong {
@@ -150,6 +151,7 @@ fn withdraw_line(text: &[u8]) -> Result<Option<Event>, Wrong>
 }
 
 // A line without its comment and its end.
+#[tactic(auto, unfolding(crate::specs::Lines::said_by))]
 fn said(text: &[u8]) -> Result<Option<Event>, Wrong>
     ensures { result ≡ said_by (first_word (words text.now)) (other_words (words text.now)) }
 {
