@@ -94,7 +94,11 @@ fn read_grid_board(body: &[u8]) -> Reading
     let columns = u16::from_le_bytes(fields::bytes_at(body, 0));
     let rows = u16::from_le_bytes(fields::bytes_at(body, 2));
     let grid = body[4];
-    let event = Event::GridBoard { columns, rows, grid };
+    let event = Event::GridBoard {
+        columns,
+        rows,
+        grid,
+    };
     Ok(Some((event, 6)))
 }
 
@@ -131,24 +135,20 @@ pub fn read_at(s: &[u8], at: usize) -> Reading
     }
     let kind = s[at];
     let body = &s[at + 1..];
-    if kind == 1 {
-        return read_new_board(body);
+    match kind {
+        1 => read_new_board(body),
+        2 => read_submit(body),
+        3 => {
+            let instant = read_number(3, body)?;
+            Ok(Some((Event::Clock { instant }, 5)))
+        }
+        4 => {
+            let id = read_number(4, body)?;
+            Ok(Some((Event::Withdraw { id }, 5)))
+        }
+        5 => read_grid_board(body),
+        _ => Err(ReadError::Unknown(kind)),
     }
-    if kind == 2 {
-        return read_submit(body);
-    }
-    if kind == 3 {
-        let instant = read_number(kind, body)?;
-        return Ok(Some((Event::Clock { instant }, 5)));
-    }
-    if kind == 4 {
-        let id = read_number(kind, body)?;
-        return Ok(Some((Event::Withdraw { id }, 5)));
-    }
-    if kind == 5 {
-        return read_grid_board(body);
-    }
-    Err(ReadError::Unknown(kind))
 }
 
 // THE READER: the event whose record stands at the front, and the bytes it took.
@@ -228,6 +228,10 @@ pub fn write(buffer: &mut [u8], v: Event) -> Written
         Event::Submit { planner, ask } => write_submit(buffer, planner, ask),
         Event::Clock { instant } => write_number(buffer, 3, instant),
         Event::Withdraw { id } => write_number(buffer, 4, id),
-        Event::GridBoard { columns, rows, grid } => write_grid_board(buffer, columns, rows, grid),
+        Event::GridBoard {
+            columns,
+            rows,
+            grid,
+        } => write_grid_board(buffer, columns, rows, grid),
     }
 }
