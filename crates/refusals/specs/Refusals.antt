@@ -1,9 +1,35 @@
 -- The refusals of each call: its tests in the order of documents 01 and 02, each list once. Assumes nothing.
 use Rattle.std.specs.Prelude.{ℕ, ◌+◌, ◌*◌, Bool, true, false, not, List, [], ◌∷◌, ltb, eqb}
+use Rattle.std.specs.Prelude.{Result, Ok, Err}
+use Rattle.refusals.specs.declared.Refusal.{Refusal}
+use Rattle.refusals.specs.declared.Refusal.TheVariants.{Unsound, BadDevice, NoSuchPlanner, IdIsZero, BadSize, BadTime, IdIsLive, TooLate, NoSlot, InstantBeforeNow, InstantTooLate, IdNotLive, HasBegun, ShortBuffer, TooLax}
 use Rattle.tasks.specs.declared.Device.{Device}
 use Rattle.tasks.specs.declared.Submission.{Submission}
 use Rattle.tasks.specs.Numbers.{last_planner, last_instant, device_fits, size_fits, time_fits}
 use Rattle.laxity.specs.Laxity.{laxity, most_laxity}
+
+-- the rows of "Answer numbers" that refuse; 18 of document 02, Q-2
+abbrev pub number_of : Refusal → ℕ
+number_of Unsound = 1
+number_of BadDevice = 2
+number_of NoSuchPlanner = 3
+number_of IdIsZero = 4
+number_of BadSize = 5
+number_of BadTime = 6
+number_of IdIsLive = 7
+number_of TooLate = 8
+number_of NoSlot = 9
+number_of InstantBeforeNow = 11
+number_of InstantTooLate = 12
+number_of IdNotLive = 13
+number_of HasBegun = 14
+number_of ShortBuffer = 17
+number_of TooLax = 18
+
+-- a refusal's number, and 0, "done", where there is none
+abbrev pub refused : {A : Type 0} → Result A Refusal → ℕ
+refused (Ok a) = 0
+refused (Err r) = number_of r
 
 -- the test of one refusal number
 pub record Test : Type 0 where
