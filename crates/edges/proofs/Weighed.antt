@@ -16,6 +16,7 @@ use Rattle.words.specs.Words.{column, Least}
 use Rattle.columns.specs.Columns.{columns, Run, runs, best_fit, key, left_of, up_to}
 use Rattle.columns.proofs.Runs.{Gap, runs-sorted, Longest, runs-longest, longest-runs}
 use Rattle.columns.proofs.BestFit.{fit-in, in-fit, best-rising, key_left, key_counts}
+use Rattle.std.specs.Prelude.{Some, None}
 use Rattle.edges.specs.Edges.{Fitting, Picked}
 
 -- a test and its negation
@@ -245,26 +246,23 @@ module _ (held fit : List ℕ) where
         step (inl t) = absurd (f (in-edge m (is_true (column fit q.left) t)))
         step (inr t) = t
 
-    -- NO EDGE: 0
-    pub stands-none : {at best : ℕ} → Stands at best → 257 ≤ at → never ≤ best → Picked (column fit) w rs 0
-    stands-none {at} {best} o h l = record {
-      none = λ z. keep-none (λ x. column fit x.left) (best_fit w rs) (λ q m. dull q m (λ e. far q e));
-      one = λ z. absurd (omega arith);
-    }
+    -- NO EDGE
+    pub stands-none : {at best : ℕ} → Stands at best → 257 ≤ at → never ≤ best → Picked (column fit) w rs None
+    stands-none {at} {best} o h l = keep-none (λ x. column fit x.left) (best_fit w rs) (λ q m. dull q m (λ e. far q e))
       where
         far : (q : Run) → Edge q → ⊥
         far q e = let k = e.longest.lies in omega (arith, (o.weighed apart).least q e (omega (arith, k.high, k.not-empty)), (key_counts (omega arith) k).1)
 
     -- THE LEAST KEY'S LEFT EDGE
-    pub stands_one : {at best r : ℕ} → Stands at best → 257 ≤ at → best < never → r ≡ left_of best → (1 ≤ r) × Picked (column fit) w rs r
+    pub stands_one : {at best r : ℕ} → Stands at best → 257 ≤ at → best < never → r ≡ left_of best → Picked (column fit) w rs (Some r)
     stands_one {at} {best} {r} o h l i = go (o.weighed apart).one
       where
-        go : (best ≡ never) ⊎ ((q : Run) × Edge q × (key q ≡ best)) → (1 ≤ r) × Picked (column fit) w rs r
+        go : (best ≡ never) ⊎ ((q : Run) × Edge q × (key q ≡ best)) → Picked (column fit) w rs (Some r)
         go (inl z) = absurd (omega arith)
         go (inr (q, e, z)) =
             let k = e.longest.lies in
             let c : q.left ≡ r = sym (key_left (omega arith) k) ∙ ap left_of z ∙ sym i in
-            (omega (arith, k.low), record { none = λ y. absurd (omega (arith, k.low)); one = λ y. (q, c, first) })
+            (q, c, first)
           where
             lesser : (x : Run) → key x < key q → Edge x → ⊥
             lesser x b f = let j = f.longest.lies in omega (arith, (o.weighed apart).least x f (omega (arith, j.high, j.not-empty)))

@@ -13,12 +13,7 @@ pub record Fitting (held fit : List ℕ) (W w : ℕ) : Type 0 where
   pub high : (c : ℕ) → column fit c ≡ true → c + w ≤ 257
   pub clear : (c : ℕ) → column fit c ≡ true → (x : ℕ) → c ≤ x → x < c + w → column held x ≡ false
 
--- r is the left edge of the first run in best-fit order whose left edge passes, and 0 where none does
-pub record Picked (passes : ℕ → Bool) (w : ℕ) (rs : List Run) (r : ℕ) : Type 0 where
-  pub none : r ≡ 0 → keep (λ x. passes x.left) (best_fit w rs) ≡ []
-  pub one : 1 ≤ r → (x : Run) × (x.left ≡ r) × (head? (keep (λ x. passes x.left) (best_fit w rs)) ≡ some x)
-
--- the same of an answer, in which None is none
-abbrev pub PickedOr : (ℕ → Bool) → ℕ → List Run → Answer ℕ → Type 0
-PickedOr passes w rs None = Picked passes w rs 0
-PickedOr passes w rs (Some c) = (1 ≤ c) × Picked passes w rs c
+-- the answer is the left edge of the first run in best-fit order whose left edge passes, and None where none does
+abbrev pub Picked : (ℕ → Bool) → ℕ → List Run → Answer ℕ → Type 0
+Picked passes w rs None = keep (λ x. passes x.left) (best_fit w rs) ≡ []
+Picked passes w rs (Some c) = (x : Run) × (x.left ≡ c) × (head? (keep (λ x. passes x.left) (best_fit w rs)) ≡ some x)

@@ -4,7 +4,7 @@
 ghost use Rattle.std.specs.Prelude.{◌≡◌, not, ◌||◌, ℕ, ◌-◌, ◌≤◌, leb};
 ghost use Rattle.words.specs.Words.{column};
 ghost use Rattle.columns.specs.Columns.{columns, runs};
-ghost use Rattle.edges.specs.Edges.{Fitting, PickedOr};
+ghost use Rattle.edges.specs.Edges.{Fitting, Picked};
 
 // Whether a run of clear columns begins at c, a clear one.
 fn is_edge(held: [u64; 4], c: u32) -> bool
@@ -20,7 +20,7 @@ fn is_edge(held: [u64; 4], c: u32) -> bool
 // Of the runs of clear columns, in best-fit order, the first whose left edge is set in `fit`: its left edge.
 // A column of `fit` is clear, so the search for its run's end begins behind it: the walk goes on whatever is lent.
 pub fn narrowest(held: [u64; 4], fit: [u64; 4]) -> Option<u32>
-    ensures { (W w : ℕ) → Fitting held fit W w → PickedOr (column fit) w (runs (λ c. not (column held c)) (columns W)) result }
+    ensures { (W w : ℕ) → Fitting held fit W w → Picked (column fit) w (runs (λ c. not (column held c)) (columns W)) result }
 {
     let mut best = lists::NONE;
     let mut at: u32 = 1;

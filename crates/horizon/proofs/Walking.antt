@@ -14,7 +14,7 @@ use Rattle.tasks.specs.declared.Submission.{Submission}
 use Rattle.columns.specs.Columns.{columns, Run, runs, key, left_of}
 use Rattle.columns.proofs.Runs.{runs-longest, longest-runs}
 use Rattle.columns.proofs.BestFit.{Better, best-head, best_none, key-less, key_left, key_counts}
-use Rattle.planners.specs.declared.Found.TheVariants.{Nothing, At}
+use Rattle.std.specs.Prelude.{Some, None}
 use Rattle.planners.specs.Planners.{release, left_edge, released_edges, horizon}
 use Rattle.planners.specs.Lent.{found_of}
 use Rattle.planners.proofs.Grid.{released-one}
@@ -63,18 +63,18 @@ module _ (W now : ℕ) (ts : List Task) (a : Submission) (wide : W ≤ 256) {t :
 
   module _ (v : Releases W now ts a t) where
     -- A RUN IS WIDE ENOUGH: that is the answer
-    pub release-hit : {x : ℕ} → o.key < never → x ≡ left_of o.key → At x t ≡ found_of (horizon 1 W now ts a)
+    pub release-hit : {x : ℕ} → o.key < never → x ≡ left_of o.key → Some (record { column = x; start = t }) ≡ found_of (horizon 1 W now ts a)
     unfolding horizon
     release-hit {x} h z = step look.key
       where
-        step : (o.key ≡ never) ⊎ KeyIs (release now ts) W a.w t o.key → At x t ≡ found_of (horizon 1 W now ts a)
+        step : (o.key ≡ never) ⊎ KeyIs (release now ts) W a.w t o.key → Some (record { column = x; start = t }) ≡ found_of (horizon 1 W now ts a)
         step (inl e) = absurd (omega arith)
         step (inr k) =
             let c : x ≡ k.run.left = z ∙ ap left_of k.same ∙ key_left wide k.fits.longest.lies in
-            ap (λ y. At y t) c ∙ sym (ap found_of (visits-hit W now ts a (released_edges 1 W now ts a) (map (release now ts) (columns W)) v (first_edge k)))
+            ap (λ y. Some (record { column = y; start = t })) c ∙ sym (ap found_of (visits-hit W now ts a (released_edges 1 W now ts a) (map (release now ts) (columns W)) v (first_edge k)))
 
     -- NONE IS LEFT: the submission is rejected
-    pub release-none : never ≤ o.key → a.d - a.e < o.next → Nothing ≡ found_of (horizon 1 W now ts a)
+    pub release-none : never ≤ o.key → a.d - a.e < o.next → None ≡ found_of (horizon 1 W now ts a)
     unfolding horizon
     release-none h l = sym (ap found_of (visits-none W now ts a (released_edges 1 W now ts a) (map (release now ts) (columns W)) v (no_edge h) not-before (omega arith)))
 

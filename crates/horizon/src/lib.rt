@@ -9,10 +9,10 @@ ghost use Rattle.releases.specs.Steps.{Rises, Pressed};
 ghost use Rattle.horizon.specs.Look.{tried, Looked};
 
 use live::Live;
-use planners::{Found, Window};
+use planners::{Place, Window};
 
 // What one pass over the columns at a time sees: the least key of a run that is wide enough, and the next release.
-// lists::NONE is none: a key and a time are less.
+// Stays: lists::NONE is none, which is past every key and time: each is the least of some numbers, and one comparison does for two.
 #[derive(Clone, Copy)]
 struct Seen {
     key: u32,
@@ -25,9 +25,10 @@ fn closed(w: u32, from: u32, to: u32, key: u32) -> u32
     ensures { result ≡ tried w from to key }
 {
     if w <= to - from {
-        return lists::lesser(columns::key(from, to), key);
+        columns::key(from, to).min(key)
+    } else {
+        key
     }
-    key
 }
 
 // One pass over the steps at t. The columns from `from` up to `to` are released by t, and the one before them is not.
@@ -39,27 +40,22 @@ fn look<'a>(past: &'a [u32; 256], at: &'a [u32; 256], n: usize, w: u32, t: u32) 
     let mut next = lists::NONE;
     let mut from: u32 = 1;
     let mut to: u32 = 1;
-    let mut i: usize = 0;
-    while i < n {
+    for i in 0..n {
         let x = at[i];
         let end = past[i];
         if t < x {
-            next = lists::lesser(x, next);
+            next = x.min(next);
             key = closed(w, from, to, key);
             from = end;
         }
         to = end;
-        i += 1;
     }
     key = closed(w, from, to, key);
-    Seen {
-        key: key,
-        next: next,
-    }
+    Seen { key, next }
 }
 
 // Horizon over the live tasks that are lent.
-pub fn find(live: &Live, count: usize, q: Window) -> Found
+pub fn find(live: &Live, count: usize, q: Window) -> Option<Place>
     requires { OnDevice q.width count live.now × Falling count live.now × Fits q }
     ensures { result ≡ found_of (horizon 1 q.width q.clock (tasks_of count live.now) (wanted q)) }
 {
@@ -72,13 +68,13 @@ pub fn find(live: &Live, count: usize, q: Window) -> Found
     'walk: loop {
         let o = look(&ends, &at, n, q.w, t);
         if o.key < lists::NONE {
-            break 'walk Found::At {
+            break 'walk Some(Place {
                 column: columns::left_of(o.key),
                 start: t,
-            };
+            });
         }
         if last < o.next {
-            break 'walk Found::Nothing;
+            break 'walk None;
         }
         t = o.next;
     }

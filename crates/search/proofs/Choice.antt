@@ -26,6 +26,7 @@ use Rattle.planners.proofs.Planners.{candidate-opens}
 use Rattle.words.specs.Words.{column}
 use Rattle.held.specs.Held.{in_stay, Held}
 use Rattle.held.proofs.Opens.{clear-opens, opens-clear}
+use Rattle.std.specs.Prelude.{Some, None}
 use Rattle.edges.specs.Edges.{Fitting, Picked}
 use Rattle.search.proofs.Fit.{Fit}
 
@@ -114,15 +115,11 @@ module _ (W now : ℕ) (ts : List Task) (w e d : ℕ) {t : ℕ} (small : W ≤ 2
     same_runs : runs (λ c. not (column held c)) (columns W) ≡ runs (free ts t) (columns W)
     same_runs = runs_same (λ c. not (column held c)) (free ts t) 1 W (λ c p q. one_free W t ts held k small c p (omega arith))
 
-    module _ {r : ℕ} (picks : Picked (column fit) w (runs (λ c. not (column held c)) (columns W)) r) where
-      same-picks : Picked (column fit) w (runs (free ts t) (columns W)) r
-      same-picks = subst (λ rs. Picked (column fit) w rs r) same_runs picks
+    -- THE NARROWEST interval that fits is the first candidate
+    pub choice-one : {c : ℕ} → Picked (column fit) w (runs (λ c. not (column held c)) (columns W)) (Some c) → head? (candidates 1 W now ts (asked w e d) t) ≡ some (pair t c)
+    choice-one {c} picks =
+        let z : Picked (column fit) w (runs (free ts t) (columns W)) (Some c) = subst (λ rs. Picked (column fit) w rs (Some c)) same_runs picks in
+        ap head? fitting-edges ∙ head-map (left_edge t) (keep (λ q. column fit q.left) intervals) z.2 ∙ ap (λ c. some (pair t c)) z.1
 
-      -- THE NARROWEST interval that fits is the first candidate
-      pub choice-one : 1 ≤ r → head? (candidates 1 W now ts (asked w e d) t) ≡ some (pair t r)
-      choice-one l =
-          let z = same-picks.one l in
-          ap head? fitting-edges ∙ head-map (left_edge t) (keep (λ q. column fit q.left) intervals) z.2 ∙ ap (λ c. some (pair t c)) z.1
-
-      pub choice-none : r ≡ 0 → candidates 1 W now ts (asked w e d) t ≡ []
-      choice-none z = fitting-edges ∙ ap (map (left_edge t)) (same-picks.none z)
+    pub choice-none : Picked (column fit) w (runs (λ c. not (column held c)) (columns W)) None → candidates 1 W now ts (asked w e d) t ≡ []
+    choice-none picks = fitting-edges ∙ ap (map (left_edge t)) (subst (λ rs. Picked (column fit) w rs None) same_runs picks)

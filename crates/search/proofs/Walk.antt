@@ -11,8 +11,8 @@ use Rattle.tasks.specs.declared.Task.{Task}
 use Rattle.tasks.specs.Tasks.{finish}
 use Rattle.tasks.proofs.Grid.{multiple-zero}
 use Rattle.live.specs.Live.{tasks_of, OnDevice, NextFinish}
-use Rattle.planners.specs.declared.Found.TheVariants.{Nothing, At}
-use Rattle.planners.specs.declared.Found.{Found}
+use Rattle.std.specs.Prelude.{Some, None, Option as Found}
+use Rattle.planners.specs.declared.Place.{Place as FoundPlace}
 use Rattle.planners.specs.declared.Window.{Window}
 use Rattle.planners.specs.Openings.{Place, ways, full}
 use Rattle.planners.specs.Planners.{candidates, stuffing}
@@ -29,7 +29,7 @@ use Rattle.search.proofs.Fit.{Fit, fit-first, fit_none, none_free}
 use Rattle.search.proofs.Choice.{now-fitting, no-candidate, choice-one, choice-none}
 
 -- the answer
-abbrev pub Answer : Bool → Window → List Task → Found
+abbrev pub Answer : Bool → Window → List Task → Found FoundPlace
 Answer whole q ts = found_of (cond whole (full 1 q.width q.clock ts (wanted q)) (stuffing 1 q.width q.clock ts (wanted q)))
 
 module _ (q : Window) (ts : List Task) where
@@ -87,7 +87,7 @@ module _ (q : Window) (n : ℕ) (live : List ℕ) (o : OnDevice q.width n live) 
     -- at t: the columns held during the stay, and where w clear ones begin
     module _ {stay fit : List ℕ} (h : Held q.width t q.e ts stay) (f : Fit stay q.w fit) where
       -- FULL takes the first place
-      pub walk_first : {c : ℕ} → whole ≡ true → Least (column fit) 1 257 c → c < 257 → At c t ≡ Answer whole q ts
+      pub walk_first : {c : ℕ} → whole ≡ true → Least (column fit) 1 257 c → c < 257 → Some (record { column = c; start = t }) ≡ Answer whole q ts
       unfolding head?
       walk_first {c} z l b =
           sym (ap (λ v. Answer v q ts) z ∙ ap found_of (k.openings z
@@ -102,24 +102,24 @@ module _ (q : Window) (n : ℕ) (live : List ℕ) (o : OnDevice q.width n live) 
       }
 
       -- the left edges among them, with what is held at t
-      module _ (z : whole ≡ false) (held : List ℕ) (h₁ : Held q.width t 1 ts held) {c : ℕ}
-          (picks : (W w : ℕ) → Fitting held fit W w → Picked (column fit) w (runs (λ x. not (column held x)) (columns W)) c) where
-        picked : Picked (column fit) q.w (runs (λ x. not (column held x)) (columns q.width)) c
-        picked = picks q.width q.w (now-fitting q.width q.clock ts q.w q.e q.d o.wide fits.wide fits.long k.from-now k.in-time h f held h₁)
+      module _ (z : whole ≡ false) (held : List ℕ) (h₁ : Held q.width t 1 ts held) where
+        fitting : Fitting held fit q.width q.w
+        fitting = now-fitting q.width q.clock ts q.w q.e q.d o.wide fits.wide fits.long k.from-now k.in-time h f held h₁
 
         -- STUFFING takes the narrowest interval's
-        pub walk-edge : 1 ≤ c → At c t ≡ Answer whole q ts
+        pub walk-edge : {c : ℕ} → ((W w : ℕ) → Fitting held fit W w → Picked (column fit) w (runs (λ x. not (column held x)) (columns W)) (Some c))
+            → Some (record { column = c; start = t }) ≡ Answer whole q ts
         unfolding stuffing
-        walk-edge l =
+        walk-edge picks =
             sym (ap (λ v. Answer v q ts) z ∙ ap found_of (visits-hit q.width q.clock ts (wanted q) (tried q ts) (map finish ts) (k.visits z)
-            (choice-one q.width q.clock ts q.w q.e q.d o.wide fits.wide fits.long k.from-now k.in-time h f held h₁ picked l)))
+            (choice-one q.width q.clock ts q.w q.e q.d o.wide fits.wide fits.long k.from-now k.in-time h f held h₁ (picks q.width q.w fitting))))
 
         -- none: there is no candidate
-        pub blocked-edges : c ≡ 0 → Blocked q ts whole t stay
-        blocked-edges l = record {
+        pub blocked-edges : ((W w : ℕ) → Fitting held fit W w → Picked (column fit) w (runs (λ x. not (column held x)) (columns W)) None) → Blocked q ts whole t stay
+        blocked-edges picks = record {
           held = h;
           no-opening = λ y. absurd (true≢false (sym y ∙ z));
-          no_edge = λ y. choice-none q.width q.clock ts q.w q.e q.d o.wide fits.wide fits.long k.from-now k.in-time h f held h₁ picked l;
+          no_edge = λ y. choice-none q.width q.clock ts q.w q.e q.d o.wide fits.wide fits.long k.from-now k.in-time h f held h₁ (picks q.width q.w fitting);
         }
 
     module _ {stay : List ℕ} (b : Blocked q ts whole t stay) {u : ℕ} (x : NextFinish live n t u) where
@@ -127,11 +127,11 @@ module _ (q : Window) (n : ℕ) (live : List ℕ) (o : OnDevice q.width n live) 
       jump z = k.openings z ∙ ap head? (rest-jump 1 q.width q.clock n live o q.w q.e q.d any fits.wide k.from-now k.in-time stay b.held (b.no-opening z) x)
 
       -- NONE IS LEFT
-      pub walk-over : q.d - q.e < u → Nothing ≡ Answer whole q ts
+      pub walk-over : q.d - q.e < u → None ≡ Answer whole q ts
       unfolding head? stuffing
       walk-over h = go whole refl
         where
-          go : (v : Bool) → whole ≡ v → Nothing ≡ Answer whole q ts
+          go : (v : Bool) → whole ≡ v → None ≡ Answer whole q ts
           go true z =
               sym (ap (λ b. Answer b q ts) z ∙ ap found_of (jump z ∙ ap head? (rest_over 1 q.width q.clock ts q.w q.e q.d u 0 (omega (arith, fits.in-time)) fits.in-time)))
           go false z =

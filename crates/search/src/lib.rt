@@ -10,11 +10,17 @@ ghost use Rattle.planners.specs.Planners.{stuffing};
 ghost use Rattle.planners.specs.Lent.{Fits, wanted, found_of};
 
 use live::{Live, Masks};
-use planners::{Found, Window};
+use planners::{Place, Window};
 
 // The search. With `whole` it is Full; without, the left edges of the free intervals are tried, as Stuffing does, and Reference is that
 // with no time after now.
-pub fn find<'a>(live: &'a Live, masks: &'a Masks, count: usize, q: Window, whole: bool) -> Found
+pub fn find<'a>(
+    live: &'a Live,
+    masks: &'a Masks,
+    count: usize,
+    q: Window,
+    whole: bool,
+) -> Option<Place>
     requires { Lent q.width count live.now masks.now × Fits q }
     ensures { result ≡ found_of (cond whole (full 1 q.width q.clock (tasks_of count live.now) (wanted q)) (stuffing 1 q.width q.clock (tasks_of count live.now) (wanted q))) }
 {
@@ -28,25 +34,19 @@ pub fn find<'a>(live: &'a Live, masks: &'a Masks, count: usize, q: Window, whole
         let first = words::next_set(fit, 1);
         if first < 257 {
             if whole {
-                break 'walk Found::At {
+                break 'walk Some(Place {
                     column: first,
                     start: t,
-                };
+                });
             }
-            let column = edges::narrowest(
-                held::held_words(live, masks, edge, n, q.width, t, 1),
-                fit,
-            );
-            if 0 < column {
-                break 'walk Found::At {
-                    column: column,
-                    start: t,
-                };
+            let now = held::held_words(live, masks, edge, n, q.width, t, 1);
+            if let Some(column) = edges::narrowest(now, fit) {
+                break 'walk Some(Place { column, start: t });
             }
         }
         let next = live::next_finish(live, n);
         if last < next {
-            break 'walk Found::Nothing;
+            break 'walk None;
         }
         t = next;
         n = live::after(live, n, t);

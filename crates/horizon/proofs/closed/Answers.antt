@@ -6,7 +6,7 @@ use Rattle.horizon.proofs.closed.Goals as goal
 
 pub returns-then-w-to : goal.returns-then-w-to
 returns-then-w-to c =
-    simp (le-leb _ _ c.if-w-to.true) (c.lesser.ensures ∙ ap (λ n. min n c.args.key) c.key.ensures)
+    simp (le-leb _ _ c.if-w-to.true) (c.min.ensures ∙ ap (λ n. min n c.args.key) c.key.ensures)
 
-pub returns : goal.returns
-returns c = simp (lt-leb _ _ c.if-w-to.false)
+pub returns-else-w-to : goal.returns-else-w-to
+returns-else-w-to c = simp (lt-leb _ _ c.if-w-to.false)

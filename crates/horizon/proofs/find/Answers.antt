@@ -1,5 +1,4 @@
 -- `horizon::find` meets its contract: the loop goes along the visited times, and each break answers. Assumes nothing.
-use Prim.Native.Nat.{◌-◌}
 use mathlib.Core.Path.{refl}
 use native.Mathlib.Omega.{arith}
 use Rattle.releases.proofs.Pressing.{press-release}

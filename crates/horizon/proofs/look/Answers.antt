@@ -1,5 +1,4 @@
 -- `horizon::look` meets its contract: the loop passes the steps one by one. Assumes nothing.
-use Prim.Native.Nat.{◌-◌}
 use mathlib.Core.Path.{◌∙◌}
 use native.Mathlib.Omega.{arith}
 use Rattle.horizon.proofs.Looking.{walk_none, walk-held, walk-open, walk-all}
@@ -15,7 +14,7 @@ loop-i-preserved c =
     let pre = c.requires in
     elim c.if-t-x.branch [
       | then-t-x m ↦
-          walk-held l.invariant pre.1 (omega arith) pre.0 m.if-t-x.true (m.key-is ∙ m.closed-key.ensures) (m.next-is ∙ m.lesser-next.ensures) m.from-is
+          walk-held l.invariant pre.1 (omega arith) pre.0 m.if-t-x.true (m.key-is ∙ m.closed-key.ensures) (m.next-is ∙ m.min-next.ensures) m.from-is
       | else-t-x m ↦ walk-open l.invariant pre.1 (omega arith) m.if-t-x.false m.key-is m.next-is m.from-is
     ]
 

@@ -1,5 +1,4 @@
 -- `search::find` meets its contract: what is left from t on, openings or times visited, gives the answer. Assumes nothing.
-use Prim.Native.Nat.{◌-◌}
 use mathlib.Core.Path.{◌≡◌}
 use native.Mathlib.Omega.{arith}
 use lib.ListN.{length}
@@ -9,7 +8,7 @@ use Rattle.search.proofs.Fit.{Fit, fit-eroded}
 use Rattle.search.proofs.Walk.{Blocked, walk-begin, walk_first, walk-edge, walk-over, walk-on, blocked-none, blocked-edges}
 use borrow.Author.Rules.{rules}
 use Rattle.search.proofs.find.Goals as goal
-use Rattle.search.proofs.find.Goals.{then-first-lt257+else-whole+else-column-gt0, else-first-lt257}
+use Rattle.search.proofs.find.Goals.{then-first-lt257+else-whole+in_default, else-first-lt257}
 
 pub walk-init : goal.walk-init
 walk-init c =
@@ -33,9 +32,9 @@ walk-preserved c =
     let f = c.walk.invariant.1 in
     let h = c.held_words-stay.ensures a.count c.requires.0 f in
     elim c.if-first-lt257.branch [
-      | then-first-lt257+else-whole+else-column-gt0 w ↦
-          blocked-edges _ _ _ c.requires.0.device c.requires.1 k h fits w.if-whole.false w.held_words.result (w.held_words.ensures a.count c.requires.0 f)
-          w.narrowest-column.ensures (omega (arith, w.if-column-gt0.false))
+      | then-first-lt257+else-whole+in_default w ↦
+          blocked-edges _ _ _ c.requires.0.device c.requires.1 k h fits w.if-whole.false w.held_words-now.result (w.held_words-now.ensures a.count c.requires.0 f)
+          w.in_default.ensures
       | else-first-lt257 w ↦ blocked-none _ _ _ c.requires.0.device c.requires.1 k h fits c.next_set-first.ensures (omega (arith, w.if-first-lt257.false))
     ] in
     let next : let a = c.args in
@@ -55,16 +54,16 @@ returns-then-whole c =
     let h = c.held_words-stay.ensures c.args.count c.requires.0 o.1 in
     walk_first _ _ _ c.requires.0.device c.requires.1 o.0 h fits c.if-whole.true c.next_set-first.ensures (omega arith)
 
-pub returns-then-column-gt0 : goal.returns-then-column-gt0
-returns-then-column-gt0 c =
+pub returns-in-Some : goal.returns-in-Some
+returns-in-Some c =
     let fits : Fit c.held_words-stay.result c.args.q.w c.erode-fit.result = let i = c.inverted in
     let four : length i.result ≡ 4 = search rules in
     fit-eroded i.result four c.requires.1.wide i.ensures c.erode-fit.ensures in
     let o = c.walk.invariant in
     let h = c.held_words-stay.ensures c.args.count c.requires.0 o.1 in
-    let h₁ = c.held_words.ensures c.args.count c.requires.0 o.1 in
-    walk-edge _ _ _ c.requires.0.device c.requires.1 o.0 h fits c.if-whole.false c.held_words.result h₁
-    c.narrowest-column.ensures (omega arith)
+    let h₁ = c.held_words-now.ensures c.args.count c.requires.0 o.1 in
+    walk-edge _ _ _ c.requires.0.device c.requires.1 o.0 h fits c.if-whole.false c.held_words-now.result h₁
+    c.in-Some.ensures
 
 pub returns-then-last-next : goal.returns-then-last-next
 returns-then-last-next c =
@@ -77,9 +76,9 @@ returns-then-last-next c =
     let f = c.walk.invariant.1 in
     let h = c.held_words-stay.ensures a.count c.requires.0 f in
     elim c.if-first-lt257.branch [
-      | then-first-lt257+else-whole+else-column-gt0 w ↦
-          blocked-edges _ _ _ c.requires.0.device c.requires.1 k h fits w.if-whole.false w.held_words.result (w.held_words.ensures a.count c.requires.0 f)
-          w.narrowest-column.ensures (omega (arith, w.if-column-gt0.false))
+      | then-first-lt257+else-whole+in_default w ↦
+          blocked-edges _ _ _ c.requires.0.device c.requires.1 k h fits w.if-whole.false w.held_words-now.result (w.held_words-now.ensures a.count c.requires.0 f)
+          w.in_default.ensures
       | else-first-lt257 w ↦ blocked-none _ _ _ c.requires.0.device c.requires.1 k h fits c.next_set-first.ensures (omega (arith, w.if-first-lt257.false))
     ] in
     let next : let a = c.args in
