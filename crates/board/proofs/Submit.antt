@@ -6,7 +6,7 @@ use mathlib.Core.Bool.{Bool, false, not}
 use mathlib.Core.Option.{Option, none, some}
 use mathlib.Core.List.{List, map}
 use native.Mathlib.Omega.{arith}
-use lib.Dec.{T, leb, ltb, eqb, leb→le, le→leb, ltb→lt, nltb→le}
+use lib.Dec.{T, leb, eqb, leb→le, le→leb, ltb→lt, nltb→le}
 use lib.ListN.{length, set}
 use Rattle.lists.specs.Lists.{◌∈◌, some?, index_of, range}
 use Rattle.lists.proofs.Bools.{bool, not-not, same_bool}

@@ -19,6 +19,10 @@ use Rattle.slots.specs.Slots.{named, known, begun_named, without_named}
 use Rattle.slots.proofs.Soundness.{Sound, Together, sound-out}
 use Rattle.refusals.specs.Refusals.{instant_tests, withdraw_tests}
 use Rattle.refusals.proofs.First.{refused-by, none-holds, sound-passes, unsound-refused}
+use Rattle.std.proofs.Common.{None, Some}
+use Rattle.std.specs.List.{position}
+use borrow.Author.Tests.{lt-ltb}
+use Rattle.slots.proofs.Named.{place-none, place-some}
 use Rattle.board.specs.declared.Board.{Board}
 use Rattle.board.specs.Refusals.{refusal, sound_board, refused_instant, refused_withdraw}
 use Rattle.board.specs.Calls.{or_refused, with_tasks, board_at, clocked, withdrawn}
@@ -105,6 +109,26 @@ module _ (b : Board) (n slot : ℕ) (good : sound_board b ≡ true) (at : slot �
       begun_first b.device b.now b.tasks s n (rw (s.slots, sym at) h)
       ∙ ap (λ j. not (waiting_phase (get_or b.tasks j free_slot).phase)) (sym at)
 
+-- so of the slot that the library's `position` gives
+module _ (b : Board) (n slot : ℕ) (good : sound_board b ≡ true) (at : Some slot ≡ position (named n) b.tasks) where
+  sb : Sound b.device b.now b.tasks
+  sb = sound-out b.device b.now b.tasks (rw good tt)
+
+  place : (slot ≡ index_of (named n) b.tasks) × (slot < length b.tasks)
+  place = place-some (named n) b.tasks slot (sym at)
+
+  below : slot < 64
+  below = omega (arith, place.1, sb.slots)
+
+  pub place-is : slot ≡ index_of (named n) b.tasks
+  place-is = place.0
+
+  pub place-known : known n b.tasks ≡ true
+  place-known = slot-known b n slot good place.0 ∙ lt-ltb slot 64 below
+
+  pub place-begun : begun_named n b.tasks ≡ not (waiting_phase (get_or b.tasks slot free_slot).phase)
+  place-begun = slot-begun b n slot good place.0 below
+
 -- THE WITHDRAWAL of a sound board: refused by 13 and 14, or the slot is free. Where no task has the id, whether it has begun is not read
 module _ (b : Board) (n : ℕ) (good : sound_board b ≡ true) {has begun : Bool} (k : known n b.tasks ≡ has)
     (g : has ≡ true → begun_named n b.tasks ≡ begun) {r : ℕ} (e : r ≡ refusal (withdraw_tests has begun)) where
@@ -125,7 +149,7 @@ module _ (b : Board) (n : ℕ) (good : sound_board b ≡ true) {has begun : Bool
       go zero z l = absurd (omega arith)
       go (suc k) z l = unfold withdrawn or_refused in rw z
 
-  pub withdrawn-known : r ≡ 0 → has ≡ true
+  withdrawn-known : r ≡ 0 → has ≡ true
   withdrawn-known z = is_true has (not-not has (none-holds 13 (not has) _ (omega arith) (sym e ∙ z)).0)
 
   pub withdrawn-freed : {slot : ℕ} → slot ≡ index_of (named n) b.tasks → r ≡ 0
@@ -135,3 +159,9 @@ module _ (b : Board) (n : ℕ) (good : sound_board b ≡ true) {has begun : Bool
       rw (withdraw-tests ∙ z)
       (ap (λ ks. record { number = 0; board = with_tasks b ks })
       (put-index (named n) free_slot b.tasks ∙ ap (λ j. set b.tasks j free_slot) (sym at)))
+
+-- 13, where no live task has the id
+pub withdrawn-nowhere : (b : Board) (n : ℕ) → sound_board b ≡ true → None ≡ position (named n) b.tasks → withdrawn b n ≡ record { number = 13; board = b }
+withdrawn-nowhere b n good e =
+    withdrawn-refused b n good {has = false} {begun = false} (unfold known in place-none (named n) b.tasks (sym e)) (λ q. cc)
+    (sym (refused-by 13 true _ refl)) (omega arith)

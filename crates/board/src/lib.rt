@@ -14,6 +14,7 @@ ghost use Rattle.board.specs.Standing.{submitted_booked, board_of, Standing};
 
 use live::{Live, Masks};
 use planners::{Found, Window};
+use refusals::Refusal;
 use tasks::{Device, Submission, Task};
 
 // "A board is a device of W columns and H rows, a clock called now, and at most 64 live tasks." The device has a grid too.
@@ -91,13 +92,22 @@ fn mark_for<'a>(planner: u8, live: &'a Live, n: usize, masks: &'a mut Masks)
     requires { (n ≤ 64) × (length masks.old ≡ 256) }
     ensures { (planner ≡ 1 → ⊥) → (planner ≡ 2 → ⊥) → Masked n live.now masks.new }
 {
-    if planner == 1 {
-        return;
+    if planner != 1 && planner != 2 {
+        sorting::mark(live, n, masks);
     }
-    if planner == 2 {
-        return;
+}
+
+// What is asked of a planner, or of the openings, for a task.
+fn window_of(on: Device, clock: u32, a: Submission) -> Window
+    ensures { result ≡ record { width = on.columns; clock = clock; w = a.w; e = a.e; d = a.d } }
+{
+    Window {
+        width: u32::from(on.columns),
+        clock,
+        w: u32::from(a.w),
+        e: a.e,
+        d: a.d,
     }
-    sorting::mark(live, n, masks);
 }
 
 // What a task submitted to a sound board is answered, its live tasks lent: 3 to 9, 18, a place, or the rejection. `free` is the
@@ -117,23 +127,10 @@ pub fn decide<'a>(
 {
     let known = keeping::among(live, count, a.id);
     let full = tasks::MOST_TASKS <= free;
-    let number = refusals::refuse_submission(on, clock, planner, a, known, full);
-    if 0 < number {
-        return Answer::Refused(number);
+    if let Err(refusal) = refusals::refuse_submission(on, clock, planner, a, known, full) {
+        return Answer::Refused(u8::from(refusal));
     }
-    let found = place::find(
-        planner,
-        live,
-        masks,
-        count,
-        Window {
-            width: on.columns as u32,
-            clock: clock,
-            w: a.w as u32,
-            e: a.e,
-            d: a.d,
-        },
-    );
+    let found = place::find(planner, live, masks, count, window_of(on, clock, a));
     match found {
         Found::Nothing => Answer::Rejected,
         Found::At {
@@ -151,10 +148,8 @@ pub fn decide<'a>(
 fn fresh(on: Device) -> Board
     ensures { result ≡ fresh_board on }
 {
-    let k = tasks::free_slot();
-    let tasks = [k; 64];
     Board {
-        tasks: tasks,
+        tasks: [tasks::free_slot(); 64],
         now: 0,
         device: on,
     }
@@ -173,16 +168,13 @@ impl Board {
         ensures { result ≡ created columns rows grid }
     {
         let on = Device {
-            columns: columns,
-            rows: rows,
-            grid: grid,
+            columns,
+            rows,
+            grid,
         };
         if tasks::device_fits(on) {
             let board = fresh(on);
-            return Created {
-                number: 0,
-                board: board,
-            };
+            return Created { number: 0, board };
         }
         let board = fresh(Device {
             columns: 0,
@@ -190,8 +182,8 @@ impl Board {
             grid: 0,
         });
         Created {
-            number: 2,
-            board: board,
+            number: u8::from(Refusal::BadDevice),
+            board,
         }
     }
 
@@ -199,8 +191,7 @@ impl Board {
     pub fn is_sound(self) -> bool
         ensures { result ≡ sound_board self }
     {
-        let tasks = self.tasks;
-        soundness::is_sound(self.device, self.now, tasks)
+        soundness::is_sound(self.device, self.now, self.tasks)
     }
 
     // A task submitted to a planner: 1, 3 to 9, 18; a place, or the rejection.
@@ -208,15 +199,13 @@ impl Board {
         ensures value { result ≡ submitted self planner a }
         ensures answer_value { told result.answer ≡ told (submitted self planner a).answer }
     {
-        let tasks = self.tasks;
         let mut live = [0u32; 384];
-        let v = soundness::test(self.device, self.now, tasks, &mut live);
-        if !v.sound {
+        let Some(v) = soundness::test(self.device, self.now, self.tasks, &mut live) else {
             return Submitted {
-                answer: Answer::Refused(1),
+                answer: Answer::Refused(u8::from(Refusal::Unsound)),
                 board: self,
             };
-        }
+        };
         let mut masks = [0u64; 256];
         mark_for(planner, &live, v.count, &mut masks);
         let free = live::lowest_free(v.used) as usize;
@@ -231,19 +220,11 @@ impl Board {
             a,
         );
         match answer {
-            Answer::Rejected => Submitted {
-                answer: Answer::Rejected,
+            Answer::Placed { column, start, .. } => self.book(a, free, column, start),
+            Answer::Rejected | Answer::Refused(_) => Submitted {
+                answer,
                 board: self,
             },
-            Answer::Refused(number) => Submitted {
-                answer: Answer::Refused(number),
-                board: self,
-            },
-            Answer::Placed {
-                column,
-                start,
-                finish: _,
-            } => self.book(a, free, column, start),
         }
     }
 
@@ -252,12 +233,11 @@ impl Board {
         requires { (slot < 64) × (start + a.e ≤ 4294967295) }
         ensures { result ≡ submitted_booked self a slot column start }
     {
-        let clock = self.now;
-        self.tasks[slot] = tasks::booked(clock, a, start, column);
+        self.tasks[slot] = tasks::booked(self.now, a, start, column);
         Submitted {
             answer: Answer::Placed {
-                column: column,
-                start: start,
+                column,
+                start,
                 finish: start + a.e,
             },
             board: self,
@@ -270,48 +250,46 @@ impl Board {
     {
         if !self.is_sound() {
             return Clocked {
-                number: 1,
+                number: u8::from(Refusal::Unsound),
                 board: self,
             };
         }
-        let number = refusals::refuse_instant(self.now, instant);
-        if 0 < number {
+        if let Err(refusal) = refusals::refuse_instant(self.now, instant) {
             return Clocked {
-                number: number,
+                number: u8::from(refusal),
                 board: self,
             };
         }
-        let tasks = self.tasks;
-        let on = self.device;
-        let aged = slots::all_aged(tasks, instant);
         Clocked {
             number: 0,
             board: Board {
-                tasks: aged,
+                tasks: slots::all_aged(self.tasks, instant),
                 now: instant,
-                device: on,
+                ..self
             },
         }
     }
 
-    // A waiting task withdrawn: 1, 13, 14. Where no live task has the id, whether one has begun is not asked: 13 comes first.
+    // A waiting task withdrawn: 1, 13, 14.
     pub fn withdraw(mut self, id: u32) -> Withdrawn
         ensures { result ≡ withdrawn self id }
     {
         if !self.is_sound() {
             return Withdrawn {
-                number: 1,
+                number: u8::from(Refusal::Unsound),
                 board: self,
             };
         }
-        let tasks = self.tasks;
-        let slot = slots::slot_named(tasks, id);
-        let k = tasks[slot % 64];
-        let waits = tasks::is_waiting(k);
-        let number = refusals::refuse_withdrawal(slot < tasks::MOST_TASKS, !waits);
-        if 0 < number {
+        let Some(slot) = slots::slot_named(self.tasks, id) else {
             return Withdrawn {
-                number: number,
+                number: u8::from(Refusal::IdNotLive),
+                board: self,
+            };
+        };
+        let waits = tasks::is_waiting(self.tasks[slot]);
+        if let Err(refusal) = refusals::refuse_withdrawal(true, !waits) {
+            return Withdrawn {
+                number: u8::from(refusal),
                 board: self,
             };
         }
@@ -327,22 +305,20 @@ impl Board {
         ensures value { result ≡ opened self a start column (length buffer.old) }
         ensures buffer_after { buffer.new ≡ opened_buffer self a start column buffer.old }
     {
-        let tasks = self.tasks;
         let mut live = [0u32; 384];
         let mut masks = [0u64; 256];
-        let v = soundness::stand(self.device, self.now, tasks, &mut live, &mut masks);
-        if !v.sound {
+        let stood = soundness::stand(self.device, self.now, self.tasks, &mut live, &mut masks);
+        let Some(v) = stood else {
             return Opened {
-                number: 1,
+                number: u8::from(Refusal::Unsound),
                 count: 0,
                 more: false,
                 board: self,
             };
-        }
-        let number = refusals::refuse_openings(self.device, self.now, a);
-        if 0 < number {
+        };
+        if let Err(refusal) = refusals::refuse_openings(self.device, self.now, a) {
             return Opened {
-                number: number,
+                number: u8::from(refusal),
                 count: 0,
                 more: false,
                 board: self,
@@ -352,14 +328,8 @@ impl Board {
             &live,
             &masks,
             v.count,
-            Window {
-                width: self.device.columns as u32,
-                clock: self.now,
-                w: a.w as u32,
-                e: a.e,
-                d: a.d,
-            },
-            self.device.grid as u32,
+            window_of(self.device, self.now, a),
+            u32::from(self.device.grid),
             start,
             column,
             buffer,
@@ -371,33 +341,33 @@ impl Board {
             board: self,
         }
     }
+
     // The horizon list in a lent buffer: 1, 17. A refusal leaves every word.
     pub fn horizon(self, buffer: &mut [u32]) -> Listed
         ensures value { result ≡ listed self (length buffer.old) }
         ensures buffer_after { buffer.new ≡ listed_buffer self buffer.old }
     {
-        let tasks = self.tasks;
         let mut live = [0u32; 384];
-        let v = soundness::test(self.device, self.now, tasks, &mut live);
-        if !v.sound {
+        let Some(v) = soundness::test(self.device, self.now, self.tasks, &mut live) else {
             return Listed {
-                number: 1,
+                number: u8::from(Refusal::Unsound),
                 count: 0,
                 board: self,
             };
-        }
+        };
         let room = buffer.len();
-        let n = horizon_list::list(&live, v.count, self.device.columns as u32, self.now, buffer);
-        if room < 3 * n {
+        let columns = u32::from(self.device.columns);
+        let count = horizon_list::list(&live, v.count, columns, self.now, buffer);
+        if room < 3 * count {
             return Listed {
-                number: 17,
+                number: u8::from(Refusal::ShortBuffer),
                 count: 0,
                 board: self,
             };
         }
         Listed {
             number: 0,
-            count: n,
+            count,
             board: self,
         }
     }
@@ -406,28 +376,25 @@ impl Board {
     pub fn busy(self, instant: u32) -> Counted
         ensures { result ≡ counted self instant }
     {
-        let tasks = self.tasks;
         let mut live = [0u32; 384];
-        let v = soundness::test(self.device, self.now, tasks, &mut live);
-        if !v.sound {
+        let Some(v) = soundness::test(self.device, self.now, self.tasks, &mut live) else {
             return Counted {
-                number: 1,
+                number: u8::from(Refusal::Unsound),
+                count: 0,
+                board: self,
+            };
+        };
+        if let Err(refusal) = refusals::refuse_instant(self.now, instant) {
+            return Counted {
+                number: u8::from(refusal),
                 count: 0,
                 board: self,
             };
         }
-        let number = refusals::refuse_instant(self.now, instant);
-        if 0 < number {
-            return Counted {
-                number: number,
-                count: 0,
-                board: self,
-            };
-        }
-        let count = busy::count(&live, v.count, self.device.columns as u32, instant);
+        let count = busy::count(&live, v.count, u32::from(self.device.columns), instant);
         Counted {
             number: 0,
-            count: count,
+            count,
             board: self,
         }
     }

@@ -1,10 +1,13 @@
 -- The refusal is the number of the first test that holds. Assumes nothing.
-use Prim.Native.Nat.{ℕ}
+use Prim.Native.Nat.{ℕ, ◌<◌}
+use native.Mathlib.Omega.{arith}
+use Rattle.refusals.specs.declared.Refusal.{Refusal}
+use Rattle.refusals.specs.declared.Refusal.TheVariants.{Unsound, BadDevice, NoSuchPlanner, IdIsZero, BadSize, BadTime, IdIsLive, TooLate, NoSlot, InstantBeforeNow, InstantTooLate, IdNotLive, HasBegun, ShortBuffer, TooLax}
 use mathlib.Core.Path.{◌≡◌, refl, ap}
 use mathlib.Core.Bool.{Bool, true, false, not}
 use mathlib.Core.List.{List, [], ◌∷◌}
 use lib.Dec.{T}
-use Rattle.refusals.specs.Refusals.{Test, ◌when◌, refusal, unsound}
+use Rattle.refusals.specs.Refusals.{Test, ◌when◌, refusal, unsound, number_of}
 
 -- a test that holds gives its number, another is passed over
 pub refused-by : (n : ℕ) (t : Bool) (ts : List Test) → t ≡ true → refusal ((n when t) ∷ ts) ≡ n
@@ -30,6 +33,24 @@ pub not-by : (n k : ℕ) (t : Bool) (ts : List Test) → (n ≡ k → ⊥) → r
 unfolding refusal
 not-by n k true ts f e = absurd (f e)
 not-by n k false ts f e = e
+
+-- no refusal is told as done
+pub is_told : (r : Refusal) → 0 < number_of r
+is_told Unsound = omega arith
+is_told BadDevice = omega arith
+is_told NoSuchPlanner = omega arith
+is_told IdIsZero = omega arith
+is_told BadSize = omega arith
+is_told BadTime = omega arith
+is_told IdIsLive = omega arith
+is_told TooLate = omega arith
+is_told NoSlot = omega arith
+is_told InstantBeforeNow = omega arith
+is_told InstantTooLate = omega arith
+is_told IdNotLive = omega arith
+is_told HasBegun = omega arith
+is_told ShortBuffer = omega arith
+is_told TooLax = omega arith
 
 -- a sound board passes test 1, another is refused by it
 pub sound-passes : (s : Bool) (ts : List Test) → s ≡ true → refusal (unsound s ∷ ts) ≡ refusal ts

@@ -1,37 +1,39 @@
 -- `board::decide` meets its contract: refusals first, then the planner. Assumes nothing.
-use mathlib.Core.Path.{sym, ap}
+use mathlib.Core.Path.{refl, sym, ap}
 use native.Mathlib.Omega.{arith}
+use Rattle.refusals.proofs.First.{is_told}
 use Rattle.board.specs.Standing.{board_of}
 use Rattle.board.proofs.Submit.{refused-same, may-ask, rejected, settled}
 use Rattle.board.proofs.decide.Goals as goal
 
-pub returns-then-number-gt0 : goal.returns-then-number-gt0
-returns-then-number-gt0 c = λ ks o l.
+pub returns-in-Err : goal.returns-in-Err
+returns-in-Err c = λ ks o l.
     let a = c.args in
-    ap (λ y. y.answer) (sym (refused-same (board_of ks a.clock a.on) a.planner a.a _ _ _ o l c.among-known.ensures
-    c.refuse_submission-number.ensures c.if-number-gt0.true))
+    rw c.from.ensures
+    (ap (λ y. y.answer) (sym (refused-same (board_of ks a.clock a.on) a.planner a.a _ _ _ o l c.among-known.ensures c.in-Err.ensures (is_told _))))
 
 pub find-found-requires : goal.find-found-requires
 find-found-requires c =
     let a = c.args in
-    may-ask (board_of c.requires.slots a.clock a.on) a.planner a.a _ _ _ c.requires.kept c.requires.lowest c.among-known.ensures
-    c.refuse_submission-number.ensures (omega arith) c.requires.masked
+    rw c.window_of.ensures
+    (may-ask (board_of c.requires.slots a.clock a.on) a.planner a.a _ _ _ c.requires.kept c.requires.lowest c.among-known.ensures
+    c.in_default.ensures refl c.requires.masked)
 
 pub overflow_add-result : goal.overflow_add-result
 overflow_add-result c =
     let a = c.args in
     let o = settled (board_of c.requires.slots a.clock a.on) a.planner a.a _ _ _ c.requires.kept c.requires.lowest
-    c.among-known.ensures c.refuse_submission-number.ensures (omega arith) c.find-found.ensures c.in-At.is in
+    c.among-known.ensures c.in_default.ensures refl (rw c.window_of.ensures at c.find-found.ensures) c.in-At.is in
     omega (arith, o.fits)
 
 pub returns-in-Nothing : goal.returns-in-Nothing
 returns-in-Nothing c = λ ks o l.
     let a = c.args in
-    rejected (board_of ks a.clock a.on) a.planner a.a _ _ _ o l c.among-known.ensures c.refuse_submission-number.ensures
-    (omega arith) c.find-found.ensures c.in-Nothing.is
+    rejected (board_of ks a.clock a.on) a.planner a.a _ _ _ o l c.among-known.ensures c.in_default.ensures
+    refl (rw c.window_of.ensures at c.find-found.ensures) c.in-Nothing.is
 
 pub returns-in-At : goal.returns-in-At
 returns-in-At c = λ ks o l.
     let a = c.args in
-    (settled (board_of ks a.clock a.on) a.planner a.a _ _ _ o l c.among-known.ensures c.refuse_submission-number.ensures
-    (omega arith) c.find-found.ensures c.in-At.is).same
+    (settled (board_of ks a.clock a.on) a.planner a.a _ _ _ o l c.among-known.ensures c.in_default.ensures
+    refl (rw c.window_of.ensures at c.find-found.ensures) c.in-At.is).same

@@ -4,4 +4,4 @@ use Rattle.board.proofs.fresh.Goals as goal
 
 pub returns : goal.returns
 unfolding fresh_board
-returns c = rw c.free_slot-k.ensures
+returns c = rw c.free_slot.ensures

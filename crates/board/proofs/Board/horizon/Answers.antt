@@ -1,31 +1,30 @@
 -- `Board::horizon` meets its contract: an unsound board is answered at once, a short buffer by 17, another by the list. Assumes nothing.
-use mathlib.Core.Path.{sym, ◌∙◌}
+use mathlib.Core.Path.{refl, sym}
 use native.Mathlib.Omega.{arith}
-use borrow.Author.Tests.{not-true, not-false}
 use Rattle.board.proofs.Lookups.{listed-unsound, lent-on, has-columns, listed-short, listed-done}
 use Rattle.board.proofs.Board.horizon.Goals as goal
 
-pub returns-then-not-v : goal.returns-then-not-v
-returns-then-not-v c =
+pub returns-in_default : goal.returns-in_default
+returns-in_default c =
     let a = c.args in
-    let all = listed-unsound a.self a.buffer.now (sym c.test-v.ensures.sound ∙ not-true _ c.if-not-v.true) in
-    record { value = all.0; buffer_after = all.1 }
+    let all = listed-unsound a.self a.buffer.now (sym c.in_default.ensures.sound) in
+    record { value = rw c.from.ensures all.0; buffer_after = all.1 }
 
-pub list-n-requires : goal.list-n-requires
-list-n-requires c =
-    let k = c.test-v.ensures.kept (not-false _ c.if-not-v.false) in
-    (lent-on _ _ _ k.stands k.good, k.falling, has-columns _ _ _ k.stands k.good)
+pub list-count-requires : goal.list-count-requires
+list-count-requires c =
+    let k = c.in-Some.ensures.kept _ refl in
+    rw c.from-columns.ensures (lent-on _ _ _ k.stands k.good, k.falling, has-columns _ _ _ k.stands k.good)
 
-pub returns-then-room-n : goal.returns-then-room-n
-returns-then-room-n c =
+pub returns-then-room-count : goal.returns-then-room-count
+returns-then-room-count c =
     let a = c.args in
-    let k = c.test-v.ensures.kept (not-false _ c.if-not-v.false) in
-    let all = listed-short a.self _ _ k.stands k.good a.buffer.now c.list-n.ensures.value c.list-n.ensures.buffer_after (omega arith) in
-    record { value = all.0; buffer_after = all.1 }
+    let k = c.in-Some.ensures.kept _ refl in
+    let all = listed-short a.self _ _ k.stands k.good a.buffer.now (rw c.from-columns.ensures at c.list-count.ensures.value) (rw c.from-columns.ensures at c.list-count.ensures.buffer_after) (omega arith) in
+    record { value = rw c.from-then-room-count.ensures all.0; buffer_after = all.1 }
 
 pub returns : goal.returns
 returns c =
     let a = c.args in
-    let k = c.test-v.ensures.kept (not-false _ c.if-not-v.false) in
-    let all = listed-done a.self _ _ k.stands k.good a.buffer.now c.list-n.ensures.value c.list-n.ensures.buffer_after (omega arith) in
+    let k = c.in-Some.ensures.kept _ refl in
+    let all = listed-done a.self _ _ k.stands k.good a.buffer.now (rw c.from-columns.ensures at c.list-count.ensures.value) (rw c.from-columns.ensures at c.list-count.ensures.buffer_after) (omega arith) in
     record { value = all.0; buffer_after = all.1 }

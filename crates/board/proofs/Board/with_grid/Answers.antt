@@ -18,4 +18,4 @@ pub returns : goal.returns
 unfolding created refused_create or_refused
 returns c =
     let a = c.args in
-    rw (refused-by 2 (not (device_fits (device a.columns a.rows a.grid))) [] (ap not (sym c.device_fits.ensures ∙ c.if-device_fits.false)), c.fresh-board-2.ensures)
+    rw (refused-by 2 (not (device_fits (device a.columns a.rows a.grid))) [] (ap not (sym c.device_fits.ensures ∙ c.if-device_fits.false)), c.fresh-board-2.ensures, c.from.ensures)
