@@ -11,7 +11,6 @@ use Rattle.lists.proofs.Members.{keep-none, pass-none, range-in}
 use Rattle.lists.proofs.Append.{keep_append, keep-agree, some_more}
 use Rattle.tasks.specs.Tasks.{holds}
 use Rattle.tasks.proofs.Laws.{holds-out}
-use Rattle.columns.specs.Columns.{columns}
 use Rattle.live.specs.Live.{from_at, finish_at, left_at, past_at, OnDevice, task_at, tasks_of}
 use Rattle.planners.proofs.Lent.{tasks-more, task-in, holds_at}
 use Rattle.words.specs.Words.{column}

@@ -16,13 +16,11 @@ fn held(live: &Live, count: usize, width: u32, instant: u32) -> [u64; 4]
     ensures { (c : ℕ) → 1 ≤ c → c ≤ 256 → column result c ≡ some? (holds instant c) (tasks_of count live.now) }
 {
     let mut words = [0u64; 4];
-    let mut i: usize = 0;
-    while i < count {
+    for i in 0..count {
         if (live[live::FROM + i] <= instant) & (instant < live[live::FINISH + i]) {
             let more = words::marked(words, live[live::LEFT + i], live[live::PAST + i]);
             words = more;
         }
-        i += 1;
     }
     words
 }

@@ -1,8 +1,9 @@
 -- The least column that begins w clear columns: what a run of clear columns that is too short rules out. Assumes nothing.
 use Rattle.std.proofs.Common.{◌≡◌, ℕ, ◌+◌, ◌<◌, ◌≤◌, true, false, not, List, sym, ap, ◌∙◌, true≢false, arith}
+use Rattle.std.specs.Prelude.{None}
 use native.Mathlib.Decide.{dec_lt}
 use Rattle.words.specs.Words.{column, Least}
-use Rattle.held.specs.Held.{Clear, FirstFree}
+use Rattle.held.specs.Held.{Clear, FirstAt, FirstFree}
 
 module _ (words : List ℕ) (from w : ℕ) where
   -- no column after `from` and before `at` begins w clear columns
@@ -26,11 +27,11 @@ module _ (words : List ℕ) (from w : ℕ) where
         go (no u) = true≢false (sym (ap not (k.clear c (omega arith) (omega arith))) ∙ x.before c (omega arith) q)
 
     -- wide enough
-    pub seek_found : a + w ≤ b → FirstFree words from w a
+    pub seek_found : a + w ≤ b → FirstAt words from w a
     seek_found z = record {
-      after = λ p. omega (arith, o.past, x.low);
-      clear = λ p. record { fits = omega (arith, y.high); clear = λ c q u. y.before c q (omega arith) };
-      least = λ c p q k. before c p (q (omega (arith, o.past, x.low))) k;
+      after = omega (arith, o.past, x.low);
+      clear = record { fits = omega (arith, y.high); clear = λ c q u. y.before c q (omega arith) };
+      least = λ c p q k. before c p q k;
     }
 
     -- too short: on from its end
@@ -51,19 +52,15 @@ module _ (words : List ℕ) (from w : ℕ) where
         go c p q k (yes v) = before c p v k
         go c p q k (no v) = set-clear b (y.here (omega (arith, k.fits))) (k.clear b (omega arith) (omega arith))
 
-  pub seek-end : {at : ℕ} → Sought at → 257 < at + w → FirstFree words from w 0
-  seek-end {at} o z = record {
-    after = λ p. absurd (omega arith);
-    clear = λ p. absurd (omega arith);
-    least = λ c p q k. o.none c p (omega (arith, k.fits)) k;
-  }
+  pub seek-end : {at : ℕ} → Sought at → 257 < at + w → FirstFree words from w None
+  seek-end {at} o z = λ c p k. o.none c p (omega (arith, k.fits)) k
 
 -- the clear columns that a column begins reach to the next set one
-pub run_end : {words : List ℕ} {from w x end : ℕ} → FirstFree words from w x → 0 < x → Least (column words) x 257 end → x + w ≤ end
-run_end {words} {from} {w} {x} {end} g m y = go (dec_lt end (x + w))
+pub run_end : {words : List ℕ} {from w x end : ℕ} → FirstAt words from w x → Least (column words) x 257 end → x + w ≤ end
+run_end {words} {from} {w} {x} {end} g y = go (dec_lt end (x + w))
   where
     k : Clear words w x
-    k = g.clear m
+    k = g.clear
 
     go : Dec (end < x + w) → x + w ≤ end
     go (yes u) = absurd (true≢false (sym (y.here (omega (arith, k.fits))) ∙ k.clear end y.low u))

@@ -1,5 +1,6 @@
 -- What is left of the openings after a pair, as the columns of an instant give it: the next one, a run of them, the next tick, the next finish. Assumes nothing.
 use Rattle.std.proofs.Common.{◌≡◌, ℕ, zero, suc, ◌+◌, ◌-◌, ◌*◌, ◌<◌, ◌≤◌, T, ltb, ◌⊎◌, List, [], ◌∷◌, ◌++◌, sym, ap, ◌∙◌, subst, ap₂, inl, inr, append_assoc, suc-mul, arith, ltb→lt, lt→ltb}
+use Rattle.std.specs.Prelude.{None}
 use native.Mathlib.Decide.{dec_lt, ℕ_discrete as dec_eq}
 use Rattle.lists.specs.Lists.{◌∈◌, range}
 use Rattle.lists.proofs.Bools.{same_bool}
@@ -16,7 +17,7 @@ use Rattle.planners.specs.Lent.{asked, Stepped, Rounded, run_at}
 use Rattle.planners.proofs.Grid.{run_more}
 use Rattle.planners.proofs.Openings.{lawful, leaves-finish, open-opening, opening-open, after-beside}
 use Rattle.words.specs.Words.{column, Least}
-use Rattle.held.specs.Held.{Held, Clear, FirstFree}
+use Rattle.held.specs.Held.{Held, Clear, FirstAt, FirstFree}
 use Rattle.held.proofs.Steps.{first-on-grid}
 use Rattle.held.proofs.Opens.{clear-opens, opens-clear, next_of}
 
@@ -90,27 +91,27 @@ module _ (g W now n : ℕ) (live : List ℕ) (o : OnDevice W n live) (w e d : �
       pick z u a (no m) (no j) = inr (lt→ltb x z (omega arith))
 
   -- THE NEXT ONE after a multiple of the grid
-  pub rest-first : {y c : ℕ} → T (multiple g y) → FirstFree words y w c → 0 < c → left t y ≡ pair t c ∷ left t c
-  rest-first {y} {c} j f m = next-is y c (f.after m) (first-on-grid W t e s words h i j f m) (f.clear m) (λ z a b on k. f.least z a (λ j. b) k)
+  pub rest-first : {y c : ℕ} → T (multiple g y) → FirstAt words y w c → left t y ≡ pair t c ∷ left t c
+  rest-first {y} {c} j f = next-is y c f.after (first-on-grid W t e s words h i j f) f.clear (λ z a b on k. f.least z a b k)
 
   -- A RUN OF THEM: the columns from c up to `end` are clear, so each of the grid up to end − w begins w clear ones
   module _ {c end : ℕ} (x : Least (column words) c 257 end) where
-    module _ {y : ℕ} (j : T (multiple g y)) (f : FirstFree words y w c) (m : 0 < c) where
+    module _ {y : ℕ} (j : T (multiple g y)) (f : FirstAt words y w c) where
       -- the step from place k on
       at-step : (k : ℕ) → T (may_begin g (c + k * g))
       unfolding may_begin
       at-step k =
-          let z : k * g + (c - 1) ≡ c + k * g - 1 = omega arith in
-          subst (λ v. T (multiple g v)) z (multiple-sum g (k * g) (c - 1) (multiple-steps g k) (first-on-grid W t e s words h i j f m))
+          let z : k * g + (c - 1) ≡ c + k * g - 1 = omega (arith, f.after) in
+          subst (λ v. T (multiple g v)) z (multiple-sum g (k * g) (c - 1) (multiple-steps g k) (first-on-grid W t e s words h i j f))
 
       on_step : (k : ℕ) → Rounded g (c + k * g) (c + suc k * g - 1)
       unfolding may_begin
-      on_step k = let z = suc-mul k g in record { multiple = at-step (suc k); low = omega (arith, s.step); near = omega (arith, s.step) }
+      on_step k = let z = suc-mul k g in record { multiple = at-step (suc k); low = omega (arith, s.step, f.after); near = omega (arith, s.step, f.after) }
 
       -- k + 1 of them, a step apart; the next is looked for after the last column of the step
       pub rest-run : (k : ℕ) → c + k * g + w ≤ end → left t y ≡ run_at t g c (k + 1) ++ left t (c + suc k * g - 1)
       unfolding range ts
-      rest-run zero b = rest-first j f m ∙ ap₂ (λ a r. pair t a ∷ r) first (ap (left t) first ∙ rest-rounded g W now ts w e d t (on_step 0))
+      rest-run zero b = rest-first j f ∙ ap₂ (λ a r. pair t a ∷ r) first (ap (left t) first ∙ rest-rounded g W now ts w e d t (on_step 0))
         where
           first : c ≡ c + 0 * g
           first = omega arith
@@ -129,16 +130,16 @@ module _ (g W now n : ℕ) (live : List ℕ) (o : OnDevice W n live) (w e d : �
               next-is (c + suc k * g - 1) (c + suc k * g) (omega arith) (at-step (suc k))
               (record { fits = omega (arith, x.high); clear = λ v a u. x.before v (omega arith) (omega arith) }) (λ v a u n l. absurd (omega arith))
 
-  none-clear : {y : ℕ} → FirstFree words y w 0 → (x : ℕ) → y < x → Open v (pair t x) → ⊥
-  none-clear {y} f x b u = f.least x b (λ m. absurd (omega arith)) (open-clear x u).1
+  none-clear : {y : ℕ} → FirstFree words y w None → (x : ℕ) → y < x → Open v (pair t x) → ⊥
+  none-clear {y} f x b u = f x b (open-clear x u).1
 
   -- NONE MORE AT THIS TICK: on to the next
-  pub rest-none : {y : ℕ} → FirstFree words y w 0 → left t y ≡ left (t + 1) 0
+  pub rest-none : {y : ℕ} → FirstFree words y w None → left t y ≡ left (t + 1) 0
   unfolding v ts ways
   rest-none {y} f = next-tick v 0 (lawful g W now ts (asked w e d)) t y (λ x u b. none-clear f x (ltb→lt y x b) u)
 
   -- NONE AT ALL AT THIS TICK: on to the next finish
-  pub rest-jump : FirstFree words 0 w 0 → {x : ℕ} → NextFinish live n t x → left t 0 ≡ left x 0
+  pub rest-jump : FirstFree words 0 w None → {x : ℕ} → NextFinish live n t x → left t 0 ≡ left x 0
   unfolding v ts ways booked stamped
   rest-jump f {x} b = next-end v 0 (lawful g W now ts (asked w e d)) t x p b.after leaves (λ y u. none-clear f y (open-clear y u).0 u)
     where

@@ -13,7 +13,7 @@ use Rattle.tasks.proofs.Laws.{covers-in, covers_out}
 use Rattle.planners.specs.Lent.{Stepped}
 use Rattle.planners.proofs.Grid.{ends-on-grid}
 use Rattle.words.specs.Words.{column, Least}
-use Rattle.held.specs.Held.{in_stay, Held, Clear, FirstFree}
+use Rattle.held.specs.Held.{in_stay, Held, Clear, FirstAt}
 
 module _ {g : ℕ} (W t e : ℕ) {w : ℕ} {ts : List Task} (s : Stepped g W w ts) (words : List ℕ) (h : Held W t e ts words) where
   -- a clear column is past no edge of the device, and no task of the stay covers it
@@ -65,22 +65,22 @@ module _ {g : ℕ} (W t e : ℕ) {w : ℕ} {ts : List Task} (s : Stepped g W w t
       go (inr b) = subst (λ x. T (multiple g x)) (let z : W ≡ c = omega (arith, ltb→lt W (suc c) b, clear-on c p (omega arith) y) in z) s.device
 
   -- THE NEXT PLACE after a multiple of the grid lies on it
-  pub first-on-grid : 1 ≤ w → {y c : ℕ} → T (multiple g y) → FirstFree words y w c → 0 < c → T (may_begin g c)
-  first-on-grid i {y} {c} j f m = subst (λ x. T (may_begin g x)) last (begins-after g (c - 1) (go (dec_eq (c - 1) y) (column words (c - 1)) refl))
+  pub first-on-grid : 1 ≤ w → {y c : ℕ} → T (multiple g y) → FirstAt words y w c → T (may_begin g c)
+  first-on-grid i {y} {c} j f = subst (λ x. T (may_begin g x)) last (begins-after g (c - 1) (go (dec_eq (c - 1) y) (column words (c - 1)) refl))
     where
       k : Clear words w c
-      k = f.clear m
+      k = f.clear
 
       last : suc (c - 1) ≡ c
-      last = omega arith
+      last = omega (arith, f.after)
 
       go : Dec (c - 1 ≡ y) → (b : Bool) → column words (c - 1) ≡ b → T (multiple g (c - 1))
       go (yes z) b v = subst (λ x. T (multiple g x)) (sym z) j
       go (no z) true v =
-          set-clear (c - 1) (omega (arith, f.after m)) (omega (arith, k.fits)) v
+          set-clear (c - 1) (omega (arith, f.after)) (omega (arith, k.fits)) v
           (subst (λ x. column words x ≡ false) (sym last) (k.clear c (omega arith) (omega arith)))
       go (no z) false v =
-          absurd (f.least (c - 1) (omega (arith, f.after m)) (λ n. omega arith)
+          absurd (f.least (c - 1) (omega (arith, f.after)) (omega (arith, f.after))
           (record { fits = omega (arith, k.fits); clear = λ x p q. each x p q (dec_eq x (c - 1)) }))
         where
           each : (x : ℕ) → c - 1 ≤ x → x < c - 1 + w → Dec (x ≡ c - 1) → column words x ≡ false

@@ -1,5 +1,5 @@
 -- What the leaves of Full promise of the columns of an instant: code-level definitions; no promise of a public call cites them. Assumes nothing.
-use Rattle.std.specs.Prelude.{◌≡◌, ℕ, ◌+◌, ◌<◌, ◌≤◌, Bool, false, ◌&&◌, ◌||◌, List, nat_lt}
+use Rattle.std.specs.Prelude.{◌≡◌, ℕ, ◌+◌, ◌<◌, ◌≤◌, Bool, false, ◌&&◌, ◌||◌, List, nat_lt, Option as Answer, Some, None}
 use Rattle.lists.specs.Lists.{some?, range}
 use Rattle.tasks.specs.declared.Task.{Task}
 use Rattle.tasks.specs.Tasks.{from, finish, overlap, covers}
@@ -31,11 +31,16 @@ pub record Clear (words : List ℕ) (w c : ℕ) : Type 0 where
   pub fits : c + w ≤ 257
   pub clear : (x : ℕ) → c ≤ x → x < c + w → column words x ≡ false
 
--- r is the least column after `from` that begins w clear columns, and 0 where there is none
-pub record FirstFree (words : List ℕ) (from w r : ℕ) : Type 0 where
-  pub after : 0 < r → from < r
-  pub clear : 0 < r → Clear words w r
-  pub least : (c : ℕ) → from < c → (0 < r → c < r) → Clear words w c → ⊥
+-- r is the least column after `from` that begins w clear columns
+pub record FirstAt (words : List ℕ) (from w r : ℕ) : Type 0 where
+  pub after : from < r
+  pub clear : Clear words w r
+  pub least : (c : ℕ) → from < c → c < r → Clear words w c → ⊥
+
+-- the answer is that column, and None where there is none
+abbrev pub FirstFree : List ℕ → ℕ → ℕ → Answer ℕ → Type 0
+FirstFree words from w None = (c : ℕ) → from < c → Clear words w c → ⊥
+FirstFree words from w (Some r) = FirstAt words from w r
 
 -- until r, r not included, a stay of e ticks meets the tasks that it meets from t on: none of the first n finishes, none comes into it
 pub record Unchanged (live : List ℕ) (n t e r : ℕ) : Type 0 where

@@ -2,7 +2,7 @@
 // that lasts. Reference, Full and the openings stand on it: none ever steps through blocked ticks.
 #![tactic(auto)]
 
-ghost use Rattle.std.specs.Prelude.{◌≡◌, ℕ, ◌+◌, ◌<◌, ◌≤◌, min, slice_index, MatchOption};
+ghost use Rattle.std.specs.Prelude.{◌≡◌, ℕ, ◌+◌, ◌<◌, ◌≤◌, min, slice_index};
 ghost use Rattle.live.specs.Live.{After, Falling, Lent, tasks_of};
 ghost use Rattle.words.specs.Words.{bit};
 ghost use Rattle.held.specs.Held.{Edge, Held, HeldWord, FirstFree, Unchanged};
@@ -71,7 +71,7 @@ pub fn held_words<'a>(
 // The least column after `from` that begins w clear columns.
 pub fn first_free(words: [u64; 4], from: u32, w: u32) -> Option<u32>
     requires { (from ≤ 256) × (1 ≤ w) × (w ≤ 256) }
-    ensures { MatchOption result (FirstFree words from w 0) (λ c. (0 < c) × FirstFree words from w c) }
+    ensures { FirstFree words from w result }
 {
     let mut at = from + 1;
     while at + w <= 257 {

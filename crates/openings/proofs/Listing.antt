@@ -8,6 +8,7 @@ use native.Mathlib.Omega.{arith}
 use native.Mathlib.Decide.{dec_lt}
 use lib.Dec.{T}
 use lib.ListN.{length, take}
+use Rattle.std.specs.Prelude.{None}
 use Rattle.lists.specs.Lists.{over_front}
 use Rattle.tasks.specs.declared.Task.{Task}
 use Rattle.planners.specs.Openings.{Place, pair_numbers}
@@ -18,7 +19,7 @@ use Rattle.planners.specs.declared.Window.{Window}
 use Rattle.live.specs.Live.{tasks_of, OnDevice, After}
 use Rattle.live.proofs.Laws.{after_on}
 use Rattle.words.specs.Words.{column, Least}
-use Rattle.held.specs.Held.{Held, FirstFree, Unchanged}
+use Rattle.held.specs.Held.{Held, FirstAt, FirstFree, Unchanged}
 use Rattle.held.proofs.Opens.{held-lasts, after-lasts}
 use Rattle.held.proofs.Steps.{first-on-grid, end-on-grid}
 use Rattle.held.proofs.Rest.{rest, rest-early, rest_over, rest-beyond, rest-rounded, rest-first, rest-run, rest-none, rest-jump}
@@ -137,24 +138,24 @@ module _ (q : Window) (g n : ℕ) (live : List ℕ) (a b : ℕ) (lent : List ℕ
       pub list-live : After live n t many
       list-live = m.live_now t (omega arith) m.ahead
 
-      module _ {x : ℕ} (f : FirstFree words c q.w x) where
+      module _ {x : ℕ} (f : FirstAt words c q.w x) where
         -- what is open from x on, up to the last place before `end`, in steps
-        pub run-steps : 0 < x → {end : ℕ} → Least (column words) x 257 end → x + q.w ≤ end → end - q.w + g ≡ x + (end - q.w + g - x) / g * g
+        pub run-steps : {end : ℕ} → Least (column words) x 257 end → x + q.w ≤ end → end - q.w + g ≡ x + (end - q.w + g - x) / g * g
         unfolding may_begin
-        run-steps z {end} y u =
-            let ends = end-on-grid q.width t q.e s words here o.wide z (omega (arith, fits.wide)) y in
-            let begins = first-on-grid q.width t q.e s words here fits.wide m.on-grid f z in
+        run-steps {end} y u =
+            let ends = end-on-grid q.width t q.e s words here o.wide (omega (arith, f.after)) (omega (arith, fits.wide)) y in
+            let begins = first-on-grid q.width t q.e s words here fits.wide m.on-grid f in
             let last = multiple-sum g (end - 1 - q.w) g (multiple-rest g (end - 1) q.w ends s.width) (multiple-self g) in
             let all = multiple-rest g (end - 1 - q.w + g) (x - 1) last begins in
-            let same : end - 1 - q.w + g - (x - 1) ≡ end - q.w + g - x = omega arith in
+            let same : end - 1 - q.w + g - (x - 1) ≡ end - q.w + g - x = omega (arith, f.after) in
             omega (arith, multiple-times g (end - q.w + g - x) (subst (λ v. T (multiple g v)) same all))
 
         -- A RUN WRITTEN, in steps
-        pub list-run : 0 < x → {end to room : ℕ} → Least (column words) x 257 end → x + q.w ≤ end → (r : Stopped x (end - q.w + g) room g to)
+        pub list-run : {end to room : ℕ} → Least (column words) x 257 end → x + q.w ≤ end → (r : Stopped x (end - q.w + g) room g to)
             → {after : List ℕ} → after ≡ sets buffer (k * 2) (pair_numbers (run_at t g x r.count))
             → {j : ℕ} → j ≡ k + r.count → j * 2 ≤ length lent → At t (to - 1) many words until after j
         unfolding may_begin
-        list-run z {end} {to} y p r {after} v {j} h room = record {
+        list-run {end} {to} y p r {after} v {j} h room = record {
           from-now = m.from-now;
           in-time = m.in-time;
           within = omega (arith, y.high, r.high, grid-fits);
@@ -167,7 +168,7 @@ module _ (q : Window) (g n : ℕ) (live : List ℕ) (a b : ℕ) (lent : List ℕ
         }
           where
             begins : T (multiple g (x - 1))
-            begins = first-on-grid q.width t q.e s words here fits.wide m.on-grid f z
+            begins = first-on-grid q.width t q.e s words here fits.wide m.on-grid f
 
             less : ℕ
             less = r.count - 1
@@ -176,41 +177,43 @@ module _ (q : Window) (g n : ℕ) (live : List ℕ) (a b : ℕ) (lent : List ℕ
             one = omega (arith, r.some)
 
             last : x - 1 + r.count * g ≡ to - 1
-            last = omega (arith, r.is)
+            last = omega (arith, r.is, f.after)
 
             run : left t c ≡ run_at t g x r.count ++ left t (to - 1)
             run =
-                rest-run g q.width q.clock n live o q.w q.e q.d s fits.wide m.from-now m.in-time words here y m.on-grid f z less
+                rest-run g q.width q.clock n live o q.w q.e q.d s fits.wide m.from-now m.in-time words here y m.on-grid f less
                 (let w = suc-mul less g in omega (arith, ap (λ n. n * g) one, r.is, r.high))
                 ∙ ap₂ (λ a b. run_at t g x a ++ left t (x + b * g - 1)) (let w : less + 1 ≡ r.count = omega (arith, one) in w) one
                 ∙ ap (λ a. run_at t g x r.count ++ left t (a - 1)) (sym r.is)
 
         -- NO MORE FITS, and there is one
-        pub list_full : 0 < x → length lent / 2 ≤ k → Promised (record { count = k; more = true }) buffer
-        list_full z h = write-full m.written (rest-first g q.width q.clock n live o q.w q.e q.d s fits.wide m.from-now m.in-time words here m.on-grid f z) h
+        pub list_full : length lent / 2 ≤ k → Promised (record { count = k; more = true }) buffer
+        list_full h = write-full m.written (rest-first g q.width q.clock n live o q.w q.e q.d s fits.wide m.from-now m.in-time words here m.on-grid f) h
 
+      -- ANOTHER TICK with columns of its own, and fewer tasks
+      pub list-after : {y fewer : ℕ} → NextTick live n t c y → After live many y fewer → After live n y fewer
+      list-after {y} {fewer} u k₁ = after_on list-live (omega (arith, next-later u)) k₁
+
+      module _ (f : FirstFree words c q.w None) where
         -- on to the next tick that can have one
-        onward : x ≡ 0 → {y : ℕ} → NextTick live n t c y → left t c ≡ left y 0
-        onward z {y} u = go (dec_lt 0 c)
+        onward : {y : ℕ} → NextTick live n t c y → left t c ≡ left y 0
+        onward {y} u = go (dec_lt 0 c)
           where
-            f₀ : FirstFree words c q.w 0
-            f₀ = rw z at f
-
             go : Dec (0 < c) → left t c ≡ left y 0
             go (yes p) =
-                rest-none g q.width q.clock n live o q.w q.e q.d s fits.wide m.from-now m.in-time words here f₀
+                rest-none g q.width q.clock n live o q.w q.e q.d s fits.wide m.from-now m.in-time words here f
                 ∙ ap (λ v. left v 0) (sym (u.tick p))
             go (no p) =
                 let r : c ≡ 0 = omega arith in
-                ap (left t) r ∙ rest-jump g q.width q.clock n live o q.w q.e q.d s fits.wide m.from-now m.in-time words here (rw r at f₀) (u.finish r)
+                ap (left t) r ∙ rest-jump g q.width q.clock n live o q.w q.e q.d s fits.wide m.from-now m.in-time words here (rw r at f) (u.finish r)
 
         -- NONE IS LEFT
-        pub list_done : x ≡ 0 → {y : ℕ} → NextTick live n t c y → q.d - q.e < y → Promised (record { count = k; more = false }) buffer
-        list_done z {y} u h = write-all m.written (onward z u ∙ over y 0 h)
+        pub list_done : {y : ℕ} → NextTick live n t c y → q.d - q.e < y → Promised (record { count = k; more = false }) buffer
+        list_done {y} u h = write-all m.written (onward u ∙ over y 0 h)
 
         -- ANOTHER TICK with the same columns
-        pub list-next : x ≡ 0 → {y : ℕ} → NextTick live n t c y → y + q.e ≤ q.d → y < until → At y 0 many words until buffer k
-        list-next z {y} u r h = record {
+        pub list-next : {y : ℕ} → NextTick live n t c y → y + q.e ≤ q.d → y < until → At y 0 many words until buffer k
+        list-next {y} u r h = record {
           from-now = omega (arith, m.from-now, next-later u);
           in-time = r;
           within = omega arith;
@@ -219,14 +222,10 @@ module _ (q : Window) (g n : ℕ) (live : List ℕ) (a b : ℕ) (lent : List ℕ
           ahead = h;
           held = λ v p. m.held v (omega (arith, next-later u));
           live_now = λ v p. m.live_now v (omega (arith, next-later u));
-          written = write-on m.written (onward z u);
+          written = write-on m.written (onward u);
         }
 
-        -- ANOTHER TICK with columns of its own, and fewer tasks
-        pub list-after : {y fewer : ℕ} → NextTick live n t c y → After live many y fewer → After live n y fewer
-        list-after {y} {fewer} u k₁ = after_on list-live (omega (arith, next-later u)) k₁
-
-        pub list-fresh : x ≡ 0 → {y fewer : ℕ} → NextTick live n t c y → y + q.e ≤ q.d → After live n y fewer → (others : List ℕ) (end : ℕ)
+        pub list-fresh : {y fewer : ℕ} → NextTick live n t c y → y + q.e ≤ q.d → After live n y fewer → (others : List ℕ) (end : ℕ)
             → Held q.width y q.e ts others → Unchanged live n y q.e end → At y 0 fewer others end buffer k
-        list-fresh z {y} u r k₁ others end h v =
-            fresh (omega (arith, m.from-now, next-later u)) r (omega arith) (multiple-zero g) h k₁ v (write-on m.written (onward z u))
+        list-fresh {y} u r k₁ others end h v =
+            fresh (omega (arith, m.from-now, next-later u)) r (omega arith) (multiple-zero g) h k₁ v (write-on m.written (onward u))

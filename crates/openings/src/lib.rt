@@ -52,8 +52,7 @@ pub fn list<'a>(
     let room = buffer.len() / 2;
     let mut n: usize = 0;
     'walk: loop {
-        let first = held::first_free(words, column, q.w);
-        if 0 < first {
+        if let Some(first) = held::first_free(words, column, q.w) {
             if room <= n {
                 break 'walk Filled {
                     count: n,

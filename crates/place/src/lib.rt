@@ -8,33 +8,32 @@ ghost use Rattle.planners.specs.Planners.{planned};
 ghost use Rattle.planners.specs.Lent.{found_of, Fits, wanted};
 
 use live::{Live, Masks};
-use planners::{Found, Window};
+use planners::{Place, Window};
 
 // The place that the named planner finds among the live tasks. Reference is the search with no time after now.
-pub fn find<'a>(planner: u8, live: &'a Live, masks: &'a Masks, count: usize, q: Window) -> Found
+pub fn find<'a>(
+    planner: u8,
+    live: &'a Live,
+    masks: &'a Masks,
+    count: usize,
+    q: Window,
+) -> Option<Place>
     requires { (planner ≤ last_planner) × LentTo planner q.width count live.now masks.now × Fits q }
     ensures { result ≡ found_of (planned 1 q.width q.clock (tasks_of count live.now) (wanted q) planner) }
 {
-    if planner == 0 {
-        return search::find(
+    match planner {
+        0 => search::find(
             live,
             masks,
             count,
             Window {
-                width: q.width,
-                clock: q.clock,
-                w: q.w,
-                e: q.e,
                 d: q.clock + q.e,
+                ..q
             },
             false,
-        );
+        ),
+        1 => horizon::find(live, count, q),
+        2 => stuffing::find(live, count, q),
+        _ => search::find(live, masks, count, q, true),
     }
-    if planner == 1 {
-        return horizon::find(live, count, q);
-    }
-    if planner == 2 {
-        return stuffing::find(live, count, q);
-    }
-    search::find(live, masks, count, q, true)
 }

@@ -6,11 +6,12 @@ use mathlib.Core.List.{List}
 use native.Mathlib.Omega.{arith}
 use lib.Dec.{T}
 use lib.ListN.{length}
+use Rattle.std.specs.Prelude.{None}
 use Rattle.lists.proofs.Bools.{is_true, is_false}
 use Rattle.words.specs.Words.{column, Least}
 use Rattle.erosion.specs.Erosion.{eroded}
 use Rattle.erosion.proofs.Runs.{eroded-set, set-eroded, eroded-fits}
-use Rattle.held.specs.Held.{Clear, FirstFree}
+use Rattle.held.specs.Held.{Clear, FirstAt, FirstFree}
 
 -- the set columns are those that begin w clear ones
 pub record Fit (stay : List ℕ) (w : ℕ) (fit : List ℕ) : Type 0 where
@@ -37,11 +38,11 @@ fit-eroded {stay} {fit} {w} clear four wide is e = record {
 
 module _ {stay fit : List ℕ} {w r : ℕ} (i : 1 ≤ w) (f : Fit stay w fit) (l : Least (column fit) 1 257 r) where
   -- THE FIRST of them
-  pub fit-first : r < 257 → FirstFree stay 0 w r
+  pub fit-first : r < 257 → FirstAt stay 0 w r
   fit-first h = record {
-    after = λ p. p;
-    clear = λ p. f.clear r (subst T (sym (l.here h)) tt);
-    least = λ c p q k. true≢false (sym (is_true (column fit c) (f.begins c p k)) ∙ l.before c p (q (omega (arith, l.low))));
+    after = l.low;
+    clear = f.clear r (subst T (sym (l.here h)) tt);
+    least = λ c p q k. true≢false (sym (is_true (column fit c) (f.begins c p k)) ∙ l.before c p q);
   }
 
   -- there is none
@@ -50,9 +51,5 @@ module _ {stay fit : List ℕ} {w r : ℕ} (i : 1 ≤ w) (f : Fit stay w fit) (l
       let t = subst T (sym e) tt in
       true≢false (sym e ∙ l.before c (f.from_one c t) (omega (arith, (f.clear c t).fits)))
 
-  pub none_free : 257 ≤ r → FirstFree stay 0 w 0
-  none_free h = record {
-    after = λ p. p;
-    clear = λ p. absurd (omega arith);
-    least = λ c p q k. fit_none h c (is_true (column fit c) (f.begins c p k));
-  }
+  pub none_free : 257 ≤ r → FirstFree stay 0 w None
+  none_free h = λ c p k. fit_none h c (is_true (column fit c) (f.begins c p k))

@@ -59,7 +59,7 @@ module _ (q : Window) (ts : List Task) where
   -- NOTHING AT t: for Full no opening, for Stuffing no candidate
   pub record Blocked (whole : Bool) (t : ℕ) (stay : List ℕ) : Type 0 where
     pub held : Held q.width t q.e ts stay
-    pub no-opening : whole ≡ true → FirstFree stay 0 q.w 0
+    pub no-opening : whole ≡ true → FirstFree stay 0 q.w None
     pub no_edge : whole ≡ false → tried t ≡ []
 
   pub walk-begin : (whole : Bool) → Fits q → Stands whole q.clock
@@ -91,7 +91,7 @@ module _ (q : Window) (n : ℕ) (live : List ℕ) (o : OnDevice q.width n live) 
       unfolding head?
       walk_first {c} z l b =
           sym (ap (λ v. Answer v q ts) z ∙ ap found_of (k.openings z
-          ∙ ap head? (rest-first 1 q.width q.clock n live o q.w q.e q.d any fits.wide k.from-now k.in-time stay h (multiple-zero 1) (fit-first fits.wide f l b) l.low)))
+          ∙ ap head? (rest-first 1 q.width q.clock n live o q.w q.e q.d any fits.wide k.from-now k.in-time stay h (multiple-zero 1) (fit-first fits.wide f l b))))
 
       -- none: nothing is open
       pub blocked-none : {c : ℕ} → Least (column fit) 1 257 c → 257 ≤ c → Blocked q ts whole t stay

@@ -17,7 +17,7 @@ overflow_add-clear c = omega (arith, c.next_clear-clear.ensures.high)
 
 pub returns-then-clear-w : goal.returns-then-clear-w
 returns-then-clear-w c =
-    (omega (arith, c.next_clear-clear.ensures.low), seek_found _ _ _ c.loop-at.invariant (omega arith) c.next_clear-clear.ensures c.next_set-set.ensures (omega arith))
+    seek_found _ _ _ c.loop-at.invariant (omega arith) c.next_clear-clear.ensures c.next_set-set.ensures (omega arith)
 
 pub loop-at-smaller : goal.loop-at-smaller
 loop-at-smaller c =

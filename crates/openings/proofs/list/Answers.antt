@@ -35,12 +35,12 @@ walk-init c =
 
 pub next_set-set-requires : goal.next_set-set-requires
 next_set-set-requires c =
-    let g = c.first_free-first.ensures in
-    (omega arith, omega (arith, (g.clear (omega arith)).fits))
+    let g = c.in-Some.ensures in
+    (omega arith, omega (arith, g.clear.fits))
 
 pub overflow_sub-set : goal.overflow_sub-set
 overflow_sub-set c =
-    let run_fits : c.first_free-first.result + c.args.q.w ≤ c.next_set-set.result = run_end c.first_free-first.ensures (omega arith) c.next_set-set.ensures in
+    let run_fits : c.in-Some.first + c.args.q.w ≤ c.next_set-set.result = run_end c.in-Some.ensures c.next_set-set.ensures in
     omega (arith, run_fits)
 
 pub overflow_add-set : goal.overflow_add-set
@@ -50,9 +50,10 @@ overflow_add-set c =
 
 pub stop-to-requires : goal.stop-to-requires
 stop-to-requires c =
-    let run_fits : c.first_free-first.result + c.args.q.w ≤ c.next_set-set.result = run_end c.first_free-first.ensures (omega arith) c.next_set-set.ensures in
+    let run_fits : c.in-Some.first + c.args.q.w ≤ c.next_set-set.result = run_end c.in-Some.ensures c.next_set-set.ensures in
     let step_fits : (1 ≤ c.args.grid) × (c.args.grid ≤ c.args.q.w) × (c.args.q.w ≤ 256) = (c.requires.2.step, grid-fits _ _ _ _ 0 0 [] c.requires.0.device c.requires.1 c.requires.2, omega (arith, c.requires.1.columns, c.requires.0.device.wide)) in
     let k = step_fits in
+    let g = c.in-Some.ensures.after in
     let e = run_fits in
     let h = c.next_set-set.ensures.high in
     (k.0, omega arith, omega arith, omega arith, omega (arith, c.walk.invariant.1.within), omega arith)
@@ -65,40 +66,40 @@ overflow_mul-n c =
 pub put_run-n-requires : goal.put_run-n-requires
 put_run-n-requires c =
     let step_fits : (1 ≤ c.args.grid) × (c.args.grid ≤ c.args.q.w) × (c.args.q.w ≤ 256) = (c.requires.2.step, grid-fits _ _ _ _ 0 0 [] c.requires.0.device c.requires.1 c.requires.2, omega (arith, c.requires.1.columns, c.requires.0.device.wide)) in
-    let run_fits : c.first_free-first.result + c.args.q.w ≤ c.next_set-set.result = run_end c.first_free-first.ensures (omega arith) c.next_set-set.ensures in
+    let run_fits : c.in-Some.first + c.args.q.w ≤ c.next_set-set.result = run_end c.in-Some.ensures c.next_set-set.ensures in
     let stopped : let a = c.args in
-    Stopped c.first_free-first.result (c.next_set-set.result - a.q.w + a.grid) (length a.buffer.now / 2 - c.walk.n) a.grid c.stop-to.result = c.stop-to.ensures _ (run-steps _ _ _ _ _ _ _ c.requires.0.device c.requires.1 c.requires.2 c.walk.invariant.1 c.first_free-first.ensures (omega arith) c.next_set-set.ensures run_fits) in
+    Stopped c.in-Some.first (c.next_set-set.result - a.q.w + a.grid) (length a.buffer.now / 2 - c.walk.n) a.grid c.stop-to.result = c.stop-to.ensures _ (run-steps _ _ _ _ _ _ _ c.requires.0.device c.requires.1 c.requires.2 c.walk.invariant.1 c.in-Some.ensures c.next_set-set.ensures run_fits) in
     let k = step_fits in
     let r = stopped in
     ((r.count, r.is, omega (arith, r.fits, same-room c.walk.invariant.1.written)), k.0, omega (arith, r.high, c.next_set-set.ensures.high))
 
 pub overflow_sub-column : goal.overflow_sub-column
 overflow_sub-column c =
-    let run_fits : c.first_free-first.result + c.args.q.w ≤ c.next_set-set.result = run_end c.first_free-first.ensures (omega arith) c.next_set-set.ensures in
+    let run_fits : c.in-Some.first + c.args.q.w ≤ c.next_set-set.result = run_end c.in-Some.ensures c.next_set-set.ensures in
     let stopped : let a = c.args in
-    Stopped c.first_free-first.result (c.next_set-set.result - a.q.w + a.grid) (length a.buffer.now / 2 - c.walk.n) a.grid c.stop-to.result = c.stop-to.ensures _ (run-steps _ _ _ _ _ _ _ c.requires.0.device c.requires.1 c.requires.2 c.walk.invariant.1 c.first_free-first.ensures (omega arith) c.next_set-set.ensures run_fits) in
-    let r = stopped in omega (arith, r.is)
+    Stopped c.in-Some.first (c.next_set-set.result - a.q.w + a.grid) (length a.buffer.now / 2 - c.walk.n) a.grid c.stop-to.result = c.stop-to.ensures _ (run-steps _ _ _ _ _ _ _ c.requires.0.device c.requires.1 c.requires.2 c.walk.invariant.1 c.in-Some.ensures c.next_set-set.ensures run_fits) in
+    let r = stopped in omega (arith, r.is, c.in-Some.ensures.after)
 
-pub walk-smaller-then-first-gt0 : goal.walk-smaller-then-first-gt0
-walk-smaller-then-first-gt0 c =
+pub walk-smaller-in-Some : goal.walk-smaller-in-Some
+walk-smaller-in-Some c =
     let step_fits : (1 ≤ c.args.grid) × (c.args.grid ≤ c.args.q.w) × (c.args.q.w ≤ 256) = (c.requires.2.step, grid-fits _ _ _ _ 0 0 [] c.requires.0.device c.requires.1 c.requires.2, omega (arith, c.requires.1.columns, c.requires.0.device.wide)) in
-    let run_fits : c.first_free-first.result + c.args.q.w ≤ c.next_set-set.result = run_end c.first_free-first.ensures (omega arith) c.next_set-set.ensures in
+    let run_fits : c.in-Some.first + c.args.q.w ≤ c.next_set-set.result = run_end c.in-Some.ensures c.next_set-set.ensures in
     let stopped : let a = c.args in
-    Stopped c.first_free-first.result (c.next_set-set.result - a.q.w + a.grid) (length a.buffer.now / 2 - c.walk.n) a.grid c.stop-to.result = c.stop-to.ensures _ (run-steps _ _ _ _ _ _ _ c.requires.0.device c.requires.1 c.requires.2 c.walk.invariant.1 c.first_free-first.ensures (omega arith) c.next_set-set.ensures run_fits) in
+    Stopped c.in-Some.first (c.next_set-set.result - a.q.w + a.grid) (length a.buffer.now / 2 - c.walk.n) a.grid c.stop-to.result = c.stop-to.ensures _ (run-steps _ _ _ _ _ _ _ c.requires.0.device c.requires.1 c.requires.2 c.walk.invariant.1 c.in-Some.ensures c.next_set-set.ensures run_fits) in
     let k = step_fits in
     let r = stopped in
-    let g = c.first_free-first.ensures in
-    further _ _ _ _ (omega (arith, steps_on r.some k.0, r.is, g.after (omega arith))) (omega (arith, r.high, c.next_set-set.ensures.high))
+    let g = c.in-Some.ensures in
+    further _ _ _ _ (omega (arith, steps_on r.some k.0, r.is, g.after)) (omega (arith, r.high, c.next_set-set.ensures.high))
 
-pub walk-preserved-then-first-gt0 : goal.walk-preserved-then-first-gt0
-walk-preserved-then-first-gt0 c =
-    let run_fits : c.first_free-first.result + c.args.q.w ≤ c.next_set-set.result = run_end c.first_free-first.ensures (omega arith) c.next_set-set.ensures in
+pub walk-preserved-in-Some : goal.walk-preserved-in-Some
+walk-preserved-in-Some c =
+    let run_fits : c.in-Some.first + c.args.q.w ≤ c.next_set-set.result = run_end c.in-Some.ensures c.next_set-set.ensures in
     let stopped : let a = c.args in
-    Stopped c.first_free-first.result (c.next_set-set.result - a.q.w + a.grid) (length a.buffer.now / 2 - c.walk.n) a.grid c.stop-to.result = c.stop-to.ensures _ (run-steps _ _ _ _ _ _ _ c.requires.0.device c.requires.1 c.requires.2 c.walk.invariant.1 c.first_free-first.ensures (omega arith) c.next_set-set.ensures run_fits) in
+    Stopped c.in-Some.first (c.next_set-set.result - a.q.w + a.grid) (length a.buffer.now / 2 - c.walk.n) a.grid c.stop-to.result = c.stop-to.ensures _ (run-steps _ _ _ _ _ _ _ c.requires.0.device c.requires.1 c.requires.2 c.walk.invariant.1 c.in-Some.ensures c.next_set-set.ensures run_fits) in
     let r = stopped in
     let put = c.put_run-n.ensures r.count r.is in (
       c.walk.invariant.0,
-      list-run _ _ _ _ _ _ _ c.requires.0.device c.requires.1 c.requires.2 c.walk.invariant.1 c.first_free-first.ensures (omega arith) c.next_set-set.ensures run_fits r
+      list-run _ _ _ _ _ _ _ c.requires.0.device c.requires.1 c.requires.2 c.walk.invariant.1 c.in-Some.ensures c.next_set-set.ensures run_fits r
           put.1 (omega (arith, put.0)) (omega (arith, put.0, r.fits)),
     )
 
@@ -122,12 +123,12 @@ walk-preserved-then-until-t c =
     let m = c.walk.invariant.1 in
     let f = list-live _ _ _ _ _ _ _ c.requires.0.device c.requires.1 c.requires.2 m in
     let u = c.next_tick-next.ensures a.count c.requires.0.falling f in
-    let g = c.first_free-first.ensures in
-    let k = list-after _ _ _ _ _ _ _ c.requires.0.device c.requires.1 c.requires.2 m g u c.after-live_now-then-until-t.ensures in
+    let g = c.in_default.ensures in
+    let k = list-after _ _ _ _ _ _ _ c.requires.0.device c.requires.1 c.requires.2 m u c.after-live_now-then-until-t.ensures in
     let h = c.held_words-words-then-until-t.ensures a.count c.requires.0 k in
     let v = c.next_change-until-then-until-t.ensures a.count c.requires.0.falling k in
     let end = c.if-last-next.false in
-    (c.walk.invariant.0, list-fresh _ _ _ _ _ _ _ c.requires.0.device c.requires.1 c.requires.2 m g (omega arith) u (omega (arith, c.requires.1.in-time, end)) k _ _ h v)
+    (c.walk.invariant.0, list-fresh _ _ _ _ _ _ _ c.requires.0.device c.requires.1 c.requires.2 m g u (omega (arith, c.requires.1.in-time, end)) k _ _ h v)
 
 pub walk-smaller : goal.walk-smaller
 walk-smaller c =
@@ -141,14 +142,14 @@ walk-preserved c =
     let m = c.walk.invariant.1 in
     let f = list-live _ _ _ _ _ _ _ c.requires.0.device c.requires.1 c.requires.2 m in
     let u = c.next_tick-next.ensures a.count c.requires.0.falling f in
-    (c.walk.invariant.0, list-next _ _ _ _ _ _ _ c.requires.0.device c.requires.1 c.requires.2 m c.first_free-first.ensures (omega arith) u (omega (arith, c.requires.1.in-time)) (omega arith))
+    (c.walk.invariant.0, list-next _ _ _ _ _ _ _ c.requires.0.device c.requires.1 c.requires.2 m c.in_default.ensures u (omega (arith, c.requires.1.in-time)) (omega arith))
 
 pub shape_of-buffer-then-room-n : goal.shape_of-buffer-then-room-n
 shape_of-buffer-then-room-n c = same-room c.walk.invariant.1.written
 
 pub returns-then-room-n : goal.returns-then-room-n
 returns-then-room-n c =
-    let all = list_full _ _ _ _ _ _ _ c.requires.0.device c.requires.1 c.requires.2 c.walk.invariant.1 c.first_free-first.ensures (omega arith) (omega (arith, c.walk.invariant.0)) in
+    let all = list_full _ _ _ _ _ _ _ c.requires.0.device c.requires.1 c.requires.2 c.walk.invariant.1 c.in-Some.ensures (omega (arith, c.walk.invariant.0)) in
     record { value = all.0; buffer_after = all.1 }
 
 pub shape_of-buffer-then-last-next : goal.shape_of-buffer-then-last-next
@@ -160,5 +161,5 @@ returns-then-last-next c =
     let m = c.walk.invariant.1 in
     let f = list-live _ _ _ _ _ _ _ c.requires.0.device c.requires.1 c.requires.2 m in
     let u = c.next_tick-next.ensures a.count c.requires.0.falling f in
-    let all = list_done _ _ _ _ _ _ _ c.requires.0.device c.requires.1 c.requires.2 m c.first_free-first.ensures (omega arith) u (omega arith) in
+    let all = list_done _ _ _ _ _ _ _ c.requires.0.device c.requires.1 c.requires.2 m c.in_default.ensures u (omega arith) in
     record { value = all.0; buffer_after = all.1 }

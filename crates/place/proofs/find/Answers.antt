@@ -19,26 +19,26 @@ is-three (suc (suc (suc (suc n)))) h a b c = absurd (omega arith)
 pub find-requires : goal.find-requires
 find-requires c =
     let l = c.requires.1 in
-    (record { device = l.device; falling = l.falling; apart = l.apart; masked = l.masked (λ e. omega (arith, c.if-planner-eq0.true)) (λ e. omega (arith, c.if-planner-eq0.true)) }, search rules)
+    (record { device = l.device; falling = l.falling; apart = l.apart; masked = l.masked (λ e. omega (arith, c.in-0.is)) (λ e. omega (arith, c.in-0.is)) }, search rules)
 
-pub returns-then-planner-eq0 : goal.returns-then-planner-eq0
+pub returns-in-0 : goal.returns-in-0
 unfolding planned
-returns-then-planner-eq0 c = rw c.if-planner-eq0.true (c.find.ensures ∙ ap found_of (sym (reference-is _ _ _ _ _ _ c.args.q.d)))
+returns-in-0 c = rw c.in-0.is (c.find.ensures ∙ ap found_of (sym (reference-is _ _ _ _ _ _ c.args.q.d)))
 
-pub returns-then-planner-eq1 : goal.returns-then-planner-eq1
+pub returns-in-1 : goal.returns-in-1
 unfolding planned
-returns-then-planner-eq1 c = rw c.if-planner-eq1.true c.find-then-planner-eq1.ensures
+returns-in-1 c = rw c.in-1.is c.find-in-1.ensures
 
-pub returns-then-planner-eq2 : goal.returns-then-planner-eq2
+pub returns-in-2 : goal.returns-in-2
 unfolding planned
-returns-then-planner-eq2 c = rw c.if-planner-eq2.true c.find-then-planner-eq2.ensures
+returns-in-2 c = rw c.in-2.is c.find-in-2.ensures
 
-pub find-requires-2 : goal.find-requires-2
-find-requires-2 c =
+pub find-requires-in_default : goal.find-requires-in_default
+find-requires-in_default c =
     let l = c.requires.1 in
-    (record { device = l.device; falling = l.falling; apart = l.apart; masked = l.masked c.if-planner-eq1.false c.if-planner-eq2.false }, c.requires.2)
+    (record { device = l.device; falling = l.falling; apart = l.apart; masked = l.masked (λ e. omega arith) (λ e. omega arith) }, c.requires.2)
 
-pub returns : goal.returns
+pub returns-in_default : goal.returns-in_default
 unfolding planned
-returns c =
-    rw (is-three c.args.planner c.requires.0 c.if-planner-eq0.false c.if-planner-eq1.false c.if-planner-eq2.false) c.find-2.ensures
+returns-in_default c =
+    rw (is-three c.args.planner c.requires.0 (λ e. omega arith) (λ e. omega arith) (λ e. omega arith)) c.find-in_default.ensures
