@@ -1,19 +1,18 @@
 // Lines of text to event records, piece by piece: the machine that the program `record` runs.
 #![tactic(auto)]
 
-ghost use Rattle.std.specs.Prelude.{◌≡◌, ◌&&◌, leb, ltb, [], map, ◌+◌, ◌-◌, ◌≤◌, ◌<◌, length, take, drop, get_or};
+ghost use Rattle.std.specs.Prelude.{◌≡◌, ◌&&◌, leb, ltb, [], map, ◌+◌, ◌-◌, ◌≤◌, length, get_or};
 ghost use Rattle.std.proofs.lemmas.List.Edits.{sets};
 ghost use Rattle.lists.specs.Lists.{over_front};
 ghost use Rattle.events.specs.Records.{record_of};
 ghost use Rattle.text.specs.Digits.{Put};
 ghost use Rattle.tokens.specs.Tokens.{words};
-ghost use Rattle.lines.specs.Lines.{bare, less_return};
+ghost use Rattle.lines.specs.Lines.{bare};
 ghost use Rattle.recorder.specs.Recorder.{unmarked, shown_byte, quoted, board_wants, submit_wants, clock_wants, withdraw_wants, expected, count_text, wrong_text, long_text, line_made};
-ghost use Rattle.recorder.specs.Machine.{Found, step_of, begun, added, part_fed, feeding, fed_of, closing, closed_of};
+ghost use Rattle.recorder.specs.Machine.{step_of, begun, added, part_fed, feeding, fed_of, closing, closed_of};
 
 use events::{Event, Written};
-use lines::Line;
-use tokens::{Sort, Word};
+use lines::{Kind, Wrong};
 
 // Where the machine stands: the number of the line that it reads, the records so far, how many bytes of the line are held,
 // whether it goes on.
@@ -117,25 +116,21 @@ fn put_withdraw_wants(err: &mut [u8], at: usize, word: usize) -> usize
     put(err, at, b"the end of the line (withdraw ID)")
 }
 
-fn put_expected(err: &mut [u8], at: usize, kind: u8, word: usize) -> usize
+fn put_expected(err: &mut [u8], at: usize, kind: Kind, word: usize) -> usize
     requires { at + 100 ≤ length err.old }
     ensures put { Put err.old at (expected kind word) err.new result }
     ensures upper_bound { result ≤ at + 100 }
 {
-    if kind == 0 {
-        return put(err, at, b"board, submit, clock or withdraw");
+    match kind {
+        Kind::Unnamed => put(err, at, b"board, submit, clock or withdraw"),
+        Kind::Board => put_board_wants(err, at, word),
+        Kind::Submit => {
+            let next = put_submit_wants(err, at, word);
+            put(err, next, b" (submit PLANNER ID W H E D)")
+        }
+        Kind::Clock => put_clock_wants(err, at, word),
+        Kind::Withdraw => put_withdraw_wants(err, at, word),
     }
-    if kind == 1 {
-        return put_board_wants(err, at, word);
-    }
-    if kind == 3 {
-        return put_clock_wants(err, at, word);
-    }
-    if kind == 4 {
-        return put_withdraw_wants(err, at, word);
-    }
-    let next = put_submit_wants(err, at, word);
-    put(err, next, b" (submit PLANNER ID W H E D)")
 }
 
 // A byte as it is shown.
@@ -151,12 +146,10 @@ fn put_shown(err: &mut [u8], at: usize, word: &[u8]) -> usize
     ensures put { Put err.old at (map shown_byte word.now) err.new result }
     ensures value { result ≡ at + length word.now }
 {
-    let mut i = 0;
-    while i < word.len() {
-        err[at + i] = shown(word[i]);
-        i += 1;
+    for (i, b) in word.iter().enumerate() {
+        err[at + i] = shown(*b);
     }
-    at + i
+    at + word.len()
 }
 
 // The wrong word in quotes, or that there is none.
@@ -193,7 +186,7 @@ fn put_wrong(
     err: &mut [u8; 512],
     line: u64,
     records: u64,
-    kind: u8,
+    kind: Kind,
     word: usize,
     bytes: &[u8],
 ) -> usize
@@ -226,40 +219,16 @@ fn put_too_long(err: &mut [u8; 512], line: u64, records: u64) -> usize
     put_count(err, end, records)
 }
 
-// How much of a line stands before a carriage return at its end.
-fn less_return(line: &[u8]) -> usize
-    ensures { (take result line.now ≡ less_return line.now) × (result ≤ length line.now) }
-{
-    let n = line.len();
-    if n == 0 {
-        return 0;
-    }
-    if line[n - 1] == b'\r' {
-        return n - 1;
-    }
-    n
-}
-
-// How much of it stands before a comment too.
-fn bare_end(line: &[u8]) -> usize
-    ensures { (take result line.now ≡ bare line.now) × (result ≤ length line.now) }
-{
-    let n = less_return(line);
-    tokens::find(&line[0..n], Sort::Hash)
-}
-
 // A word of a text, counted from 1.
-fn nth_word(text: &[u8], word: usize) -> Word
-    ensures { Found text.now (word - 1) result }
+fn nth_word(text: &[u8], word: usize) -> &[u8]
+    ensures { result.now ≡ get_or (words text.now) (word - 1) [] }
 {
-    let mut from: usize = 0;
-    let mut i: usize = 1;
-    while i < word {
-        let next = tokens::next(text, from);
-        from = next.to;
-        i += 1;
+    let mut rest = text;
+    for i in 1..word {
+        (_, rest) = tokens::next(rest);
     }
-    tokens::next(text, from)
+    let (found, _) = tokens::next(rest);
+    found
 }
 
 // The message of a line whose word is wrong.
@@ -267,35 +236,28 @@ fn complain(
     err: &mut [u8; 512],
     line: u64,
     records: u64,
-    kind: u8,
+    kind: Kind,
     word: usize,
     text: &[u8],
 ) -> usize
     ensures value { result ≡ length (wrong_text line records kind word (get_or (words (bare text.now)) (word - 1) [])) }
     ensures err_after { err.new ≡ over_front (wrong_text line records kind word (get_or (words (bare text.now)) (word - 1) [])) err.old }
 {
-    let end = bare_end(text);
-    let bare = &text[0..end];
-    let at = nth_word(bare, word);
-    let from = at.from;
-    let to = at.to;
-    put_wrong(err, line, records, kind, word, &bare[from..to])
+    let shown = nth_word(lines::bare(text), word);
+    put_wrong(err, line, records, kind, word, shown)
 }
 
-// Where line n begins: behind a byte order mark.
-fn mark_end(line: u64, text: &[u8]) -> usize
-    ensures { (drop result text.now ≡ unmarked line text.now) × (result ≤ length text.now) }
+// Line n without a byte order mark before it.
+fn unmarked(line: u64, text: &[u8]) -> &[u8]
+    ensures { result.now ≡ unmarked line text.now }
 {
     if line != 1 {
-        return 0;
+        return text;
     }
-    if text.len() < 3 {
-        return 0;
+    match text.strip_prefix(b"\xEF\xBB\xBF") {
+        Some(behind) => behind,
+        None => text,
     }
-    if tokens::is_name(&text[0..3], b"\xEF\xBB\xBF") {
-        return 3;
-    }
-    0
 }
 
 // A record from a place on; its length. There is room for it, as no record is longer than 18 bytes.
@@ -334,23 +296,21 @@ fn put_line(
     ensures out_after { out.new ≡ sets out.old used (line_made line records text.now).output.out }
     ensures err_after { err.new ≡ over_front (line_made line records text.now).output.err err.old }
 {
-    let from = mark_end(line, text);
-    let bare = &text[from..];
-    let said = lines::read(bare);
-    match said {
-        Line::Nothing => Step {
+    let bare = unmarked(line, text);
+    match lines::read(bare) {
+        Ok(None) => Step {
             used: 0,
             said: 0,
             records: 0,
             more: true,
         },
-        Line::Says(event) => Step {
+        Ok(Some(event)) => Step {
             used: put_record(out, used, event),
             said: 0,
             records: 1,
             more: true,
         },
-        Line::Wrong { kind, word } => {
+        Err(Wrong { kind, word }) => {
             out[used] = 0;
             Step {
                 used: 1,
@@ -366,7 +326,7 @@ fn put_line(
 fn add(n: u64, k: u64) -> u64
     ensures { result ≡ added n k }
 {
-    if n <= u64::MAX - k { n + k } else { u64::MAX }
+    n.saturating_add(k)
 }
 
 // Bytes without a line feed behind the held ones, where there is room; `ends` where a line feed stands behind them.
@@ -391,15 +351,10 @@ fn feed_part(
         out[used] = 0;
         let said = put_too_long(err, r.line, r.records);
         return Fed {
-            recorder: Recorder {
-                line: r.line,
-                records: r.records,
-                held: r.held,
-                more: false,
-            },
+            recorder: Recorder { more: false, ..r },
             taken: size,
             used: 1,
-            said: said,
+            said,
         };
     }
     let end = text::put_bytes(held, from, part);
@@ -420,10 +375,8 @@ fn feed_part(
     }
     Fed {
         recorder: Recorder {
-            line: r.line,
-            records: r.records,
             held: end as u16,
-            more: r.more,
+            ..r
         },
         taken: size,
         used: 0,
@@ -467,8 +420,9 @@ pub fn feed(
     let mut at: usize = 0;
     let mut used: usize = 0;
     let mut said: usize = 0;
+    // Stays: no index is counted, a turn takes as many bytes as a part has, and a wrong line ends the run.
     while goes_on(r.more, piece.len() - at, out.len() - used) {
-        let end = at + tokens::find(&piece[at..], Sort::Newline);
+        let end = at + tokens::find(&piece[at..], |b| b == b'\n');
         let p = feed_part(r, held, &piece[at..end], end < piece.len(), out, used, err);
         r = p.recorder;
         at += p.taken;
@@ -478,9 +432,9 @@ pub fn feed(
     let taken = if r.more { at } else { piece.len() };
     Fed {
         recorder: r,
-        taken: taken,
-        used: used,
-        said: said,
+        taken,
+        used,
+        said,
     }
 }
 
@@ -498,10 +452,8 @@ pub fn close(
     ensures used_in_bounds { (result.used ≤ length out.new) × (result.said ≤ length err.new) }
 {
     let stopped = Recorder {
-        line: recorder.line,
-        records: recorder.records,
-        held: recorder.held,
         more: false,
+        ..recorder
     };
     if recorder.more {
         if whole {
