@@ -11,7 +11,7 @@ ghost use Rattle.lines.specs.Lines.{bare};
 ghost use Rattle.recorder.specs.Recorder.{unmarked, shown_byte, quoted, board_wants, submit_wants, clock_wants, withdraw_wants, expected, count_text, wrong_text, long_text, line_made};
 ghost use Rattle.recorder.specs.Machine.{step_of, begun, added, part_fed, feeding, fed_of, closing, closed_of};
 
-use events::{Event, Written};
+use events::Event;
 use lines::{Kind, Wrong};
 
 // Where the machine stands: the number of the line that it reads, the records so far, how many bytes of the line are held,
@@ -266,11 +266,7 @@ fn put_record(out: &mut [u8], used: usize, event: Event) -> usize
     ensures value { result ≡ length (record_of event) }
     ensures out_after { out.new ≡ sets out.old used (record_of event) }
 {
-    let w = events::write(&mut out[used..], event);
-    match w {
-        Written::NoRoom => 0,
-        Written::Length(n) => n,
-    }
+    events::write(&mut out[used..], event).unwrap()
 }
 
 // What a line made: the bytes of its output, how many records that is, whether the run goes on.
