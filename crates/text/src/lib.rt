@@ -4,7 +4,7 @@
 ghost use Rattle.std.specs.Prelude.{◌≡◌, [], ◌∷◌, ◌++◌, ◌+◌, ◌*◌, ◌^◌, ◌≤◌, ◌<◌, length};
 ghost use Rattle.std.proofs.lemmas.List.Edits.{sets};
 ghost use Rattle.lists.specs.Lists.{over_front};
-ghost use Rattle.text.specs.Text.{decimal, row_text, rows_text, rows_of};
+ghost use Rattle.text.specs.Text.{ascii, decimal, row_text, rows_text, rows_of};
 ghost use Rattle.text.specs.Digits.{last_digits, spaced, Put};
 
 // The last n digits of a number, from the last one backwards: each is what a division by ten leaves.
@@ -55,6 +55,19 @@ pub fn put_ended<const MOST: usize>(out: &mut [u8], at: usize, x: u64, end: u8) 
     let after = put_number::<MOST>(out, at, x);
     out[after] = end;
     after + 1
+}
+
+// An event and its kind byte between a head and a tail: the message of one that is no whole record of a known kind.
+pub fn put_event(out: &mut [u8], at: usize, head: &[u8], event: u64, kind: u8, tail: &[u8]) -> usize
+    requires { (event < 10000000000) × (at + length head.now + length tail.now + 20 ≤ length out.old) }
+    ensures put { Put out.old at (head.now ++ (decimal event ++ (ascii " (kind " ++ (decimal kind ++ tail.now)))) out.new result }
+    ensures upper_bound { result ≤ at + length head.now + length tail.now + 20 }
+{
+    let event_at = put_bytes(out, at, head);
+    let after_event = put_number::<10>(out, event_at, event);
+    let kind_at = put_bytes(out, after_event, b" (kind ");
+    let after_kind = put_number::<3>(out, kind_at, u64::from(kind));
+    put_bytes(out, after_kind, tail)
 }
 
 // Words from a place on, each with a space behind it; the place after them.
