@@ -7,8 +7,7 @@ use lib.ListN.{length, drop, length-append, length-drop}
 use lib.Seq.{drop-append_seam}
 use Rattle.events.specs.declared.Event.{Event}
 use Rattle.events.specs.declared.Event.TheVariants.{NewBoard, Submit, Clock, Withdraw, GridBoard}
-use Rattle.events.specs.declared.Reading.TheVariants.{Got}
-use Rattle.events.specs.declared.Written.TheVariants.{NoRoom}
+use Rattle.std.specs.Prelude.{Ok, Err, Some}
 use Rattle.events.specs.Records.{bytes_of, kind_of, body_of, record_of, new_board_in, submit_in, clock_in, withdraw_in, grid_board_in, read_from, written, written_buffer, told_read, told_written}
 use Rattle.events.proofs.Found.{Known, new-board, submit, clock, withdraw, grid-board, NoKind, known, whole, short, unknown, Taken, taken, got-taken}
 use Rattle.events.proofs.Writing.{by-room, room-answer, room-buffer, short-answer, short-buffer}
@@ -26,11 +25,11 @@ has-kind (GridBoard W H g) = (grid_board_in, grid-board)
 module _ (v : Event) (buffer : List ℕ) where
   -- WHAT WAS WRITTEN into a buffer with room READS BACK
   pub reads-back :
-      Fits v → length (record_of v) ≤ length buffer → read_from (written_buffer v buffer) ≡ Got v (length (record_of v))
+      Fits v → length (record_of v) ≤ length buffer → read_from (written_buffer v buffer) ≡ Ok (Some (v, length (record_of v)))
   reads-back f h = rw (room-buffer v buffer h) (read-written v f (drop (length (record_of v)) buffer))
 
   -- A REFUSED WRITE leaves the buffer
-  pub refused-stays : written v (length buffer) ≡ NoRoom → written_buffer v buffer ≡ buffer
+  pub refused-stays : written v (length buffer) ≡ Err (record {}) → written_buffer v buffer ≡ buffer
   refused-stays e =
       by-room v buffer
       (λ h. let a = room-answer v buffer h in absurd (let z : ◌≡◌ {A = ℕ} 0 1 = cc in omega arith))
@@ -70,7 +69,7 @@ told-end = refl
 -- THE READER JUDGES NO FIELD VALUE: a known kind byte and enough bytes, whatever they are, give an event
 pub judges-none :
     {kind n : ℕ} {f : List ℕ → Event} → Known kind n f → (body : List ℕ) → n ≤ length body
-    → read_from (kind ∷ body) ≡ Got (f body) (suc n)
+    → read_from (kind ∷ body) ≡ Ok (Some (f body, suc n))
 judges-none k body h = known k body ∙ whole _ _ body _ h
 
 -- its kind is the kind byte, and the bytes taken are that byte and the body
@@ -102,7 +101,7 @@ unfolding told_read
 told-16 kind k body = rw (unknown kind k)
 
 -- WHAT WAS TAKEN is there, and is more than nothing: a walk by what is taken ends
-pub taken-there : (l : List ℕ) (v : Event) (size : ℕ) → read_from l ≡ Got v size → (0 < size) × (size ≤ length l)
+pub taken-there : (l : List ℕ) (v : Event) (size : ℕ) → read_from l ≡ Ok (Some (v, size)) → (0 < size) × (size ≤ length l)
 taken-there l v size e = of (got-taken l v size e)
   where
     of : {l : List ℕ} {v : Event} {size : ℕ} → Taken l v size → (0 < size) × (size ≤ length l)

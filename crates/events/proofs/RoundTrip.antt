@@ -9,7 +9,7 @@ use lib.Seq.{take-add, drop-drop}
 use Rattle.events.specs.declared.Ask.{Ask}
 use Rattle.events.specs.declared.Event.{Event}
 use Rattle.events.specs.declared.Event.TheVariants.{NewBoard, Submit, Clock, Withdraw, GridBoard}
-use Rattle.events.specs.declared.Reading.TheVariants.{Got}
+use Rattle.std.specs.Prelude.{Ok, Some}
 use Rattle.events.specs.Records.{bytes_of, number_of, field, kind_of, body_of, record_of, new_board_in, submit_in, clock_in, withdraw_in, grid_board_in, read_from}
 use Rattle.events.proofs.Found.{Known, new-board, submit, clock, withdraw, grid-board, whole, Taken, taken, got-taken}
 
@@ -59,27 +59,30 @@ pub data Fits : Event → Type 0 where
   gridded : {W H g : ℕ} → W < 256 ^ 2 → H < 256 ^ 2 → g < 256 ^ 1 → Fits (GridBoard W H g)
 
 -- WHAT WAS WRITTEN READS BACK as the same event and length, whatever follows it
-pub read-written : (v : Event) → Fits v → (rest : List ℕ) → read_from (record_of v ++ rest) ≡ Got v (length (record_of v))
+pub read-written : (v : Event) → Fits v → (rest : List ℕ) → read_from (record_of v ++ rest) ≡ Ok (Some (v, length (record_of v)))
 unfolding read_from record_of kind_of body_of bytes_of
 read-written (NewBoard W H) (board p q) rest =
     whole 1 4 (body_of (NewBoard W H) ++ rest) _ (omega arith)
-    ∙ ap₂ (λ x y. Got (NewBoard x y) 5) (number-bytes 2 W p) (number-bytes 2 H q)
+    ∙ ap₂ (λ x y. Ok (Some (NewBoard x y, 5))) (number-bytes 2 W p) (number-bytes 2 H q)
 read-written (Submit n a) (submission p q) rest =
     whole 2 17 (body_of (Submit n a) ++ rest) _ (omega arith)
-    ∙ (λ i. Got (Submit (number-bytes 1 n p i) (record {
-      id = number-bytes 4 a.id q.id i;
-      e = number-bytes 4 a.e q.e i;
-      d = number-bytes 4 a.d q.d i;
-      w = number-bytes 2 a.w q.w i;
-      h = number-bytes 2 a.h q.h i;
-    })) 18)
+    ∙ (λ i. Ok (Some (
+      Submit (number-bytes 1 n p i) (record {
+        id = number-bytes 4 a.id q.id i;
+        e = number-bytes 4 a.e q.e i;
+        d = number-bytes 4 a.d q.d i;
+        w = number-bytes 2 a.w q.w i;
+        h = number-bytes 2 a.h q.h i;
+      }),
+      18,
+    )))
 read-written (Clock i) (instant p) rest =
-    whole 3 4 (body_of (Clock i) ++ rest) _ (omega arith) ∙ ap (λ x. Got (Clock x) 5) (number-bytes 4 i p)
+    whole 3 4 (body_of (Clock i) ++ rest) _ (omega arith) ∙ ap (λ x. Ok (Some (Clock x, 5))) (number-bytes 4 i p)
 read-written (Withdraw n) (name p) rest =
-    whole 4 4 (body_of (Withdraw n) ++ rest) _ (omega arith) ∙ ap (λ x. Got (Withdraw x) 5) (number-bytes 4 n p)
+    whole 4 4 (body_of (Withdraw n) ++ rest) _ (omega arith) ∙ ap (λ x. Ok (Some (Withdraw x, 5))) (number-bytes 4 n p)
 read-written (GridBoard W H g) (gridded p q r) rest =
     whole 5 5 (body_of (GridBoard W H g) ++ rest) _ (omega arith)
-    ∙ (λ i. Got (GridBoard (number-bytes 2 W p i) (number-bytes 2 H q i) (number-bytes 1 g r i)) 6)
+    ∙ (λ i. Ok (Some (GridBoard (number-bytes 2 W p i) (number-bytes 2 H q i) (number-bytes 1 g r i), 6)))
 
 -- two fields beside each other
 beside : (at n m : ℕ) (l : List ℕ) → take n (drop at l) ++ take m (drop (at + n) l) ≡ take (n + m) (drop at l)
@@ -124,7 +127,7 @@ kind-again withdraw l h k = ap (λ x. 4 ∷ x) (withdraw-again l h k)
 kind-again grid-board l h k = ap (λ x. 5 ∷ x) (grid-board-again l h k)
 
 -- WHAT WAS READ, WRITTEN AGAIN, gives the bytes that were taken
-pub written-again : (l : List ℕ) → Bytes l → (v : Event) (size : ℕ) → read_from l ≡ Got v size → record_of v ≡ take size l
+pub written-again : (l : List ℕ) → Bytes l → (v : Event) (size : ℕ) → read_from l ≡ Ok (Some (v, size)) → record_of v ≡ take size l
 written-again l h v size e = of h (got-taken l v size e)
   where
     of : {l : List ℕ} {v : Event} {size : ℕ} → Bytes l → Taken l v size → record_of v ≡ take size l

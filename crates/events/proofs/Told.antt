@@ -1,7 +1,6 @@
 -- What a reader and a writer answer fixes the number and the values that are told. Assumes nothing.
 use mathlib.Core.Path.{◌≡◌, ap}
-use Rattle.events.specs.declared.Reading.{Reading}
-use Rattle.events.specs.declared.Written.{Written}
+use Rattle.events.specs.Records.{Reading, Written}
 use Rattle.events.specs.Records.{told_read, told_written}
 
 pub read_told : {r q : Reading} → r ≡ q → (r ≡ q) × (told_read r ≡ told_read q)

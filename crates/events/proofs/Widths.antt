@@ -7,7 +7,7 @@ use native.Mathlib.Nat.{pow-suc}
 use lib.ListN.{take, drop}
 use lib.Seq.{get_or-drop}
 use Rattle.events.specs.declared.Event.{Event}
-use Rattle.events.specs.declared.Reading.TheVariants.{Got}
+use Rattle.std.specs.Prelude.{Ok, Some}
 use Rattle.events.specs.Records.{number_of, field, read_from}
 use Rattle.events.proofs.Found.{Known, new-board, submit, clock, withdraw, grid-board, Taken, taken, got-taken}
 use Rattle.events.proofs.RoundTrip.{Bytes, Fits, board, submission, instant, name, gridded}
@@ -42,7 +42,7 @@ kind_fits withdraw l h = name (field_below 0 4 l h)
 kind_fits grid-board l h = gridded (field_below 0 2 l h) (field_below 2 2 l h) (field_below 4 1 l h)
 
 -- WHAT IS READ FROM BYTES fits its record
-pub read_fits : (l : List ℕ) → Bytes l → (v : Event) (size : ℕ) → read_from l ≡ Got v size → Fits v
+pub read_fits : (l : List ℕ) → Bytes l → (v : Event) (size : ℕ) → read_from l ≡ Ok (Some (v, size)) → Fits v
 read_fits l h v size e = of h (got-taken l v size e)
   where
     of : {l : List ℕ} {v : Event} {size : ℕ} → Bytes l → Taken l v size → Fits v

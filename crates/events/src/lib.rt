@@ -2,8 +2,9 @@
 // numbers little-endian.
 #![tactic(auto)]
 
-ghost use Rattle.std.specs.Prelude.{◌≡◌, ◌+◌, ◌<◌, length, drop};
-ghost use Rattle.events.specs.Records.{kind_of, new_board_in, submit_in, clock_in, withdraw_in, grid_board_in, whole_or15, read_from, written, written_buffer, submission_of, told_read, told_written};
+ghost use Rattle.std.specs.Prelude.{◌≡◌, ◌∷◌, if◌then◌else◌, ltb, leb, length, drop, Ok, Err};
+ghost use Rattle.lists.specs.Lists.{over_front};
+ghost use Rattle.events.specs.Records.{bytes_of, field, kind_of, new_board_in, submit_in, grid_board_in, whole_or15, read_from, written, written_buffer, submission_of, told_read, told_written};
 
 use tasks::Submission;
 
@@ -28,88 +29,77 @@ pub enum Event {
     GridBoard { columns: u16, rows: u16, grid: u8 },
 }
 
-// What the reader returns: the event and the bytes it took; the end; 15 and 16 with the kind byte.
-#[derive(Clone, Copy)]
-pub enum Reading {
-    End,
-    Got(Event, usize),
+// Why there is no event: 15 and 16, each with the kind byte.
+#[derive(Clone, Copy, PartialEq, Eq)]
+pub enum ReadError {
     CutShort(u8),
     Unknown(u8),
 }
 
+// What the reader returns: the event and the bytes it took; none at the end; 15 or 16.
+pub type Reading = Result<Option<(Event, usize)>, ReadError>;
+
+// 17: the buffer has no room for the record.
+#[derive(Clone, Copy, PartialEq, Eq)]
+pub struct NoRoom;
+
 // What the writer returns: the record's length; 17.
-#[derive(Clone, Copy)]
-pub enum Written {
-    NoRoom,
-    Length(usize),
-}
+pub type Written = Result<usize, NoRoom>;
 
 // What a body of each kind gives: its event with the kind byte and the body taken, or 15.
 fn read_new_board(body: &[u8]) -> Reading
     ensures { result ≡ whole_or15 1 4 body.now (new_board_in body.now) }
 {
     if body.len() < 4 {
-        return Reading::CutShort(1);
+        return Err(ReadError::CutShort(1));
     }
-    let columns = fields::field_2(body, 0);
-    let rows = fields::field_2(body, 2);
-    Reading::Got(Event::NewBoard { columns, rows }, 5)
+    let columns = u16::from_le_bytes(fields::bytes_at(body, 0));
+    let rows = u16::from_le_bytes(fields::bytes_at(body, 2));
+    Ok(Some((Event::NewBoard { columns, rows }, 5)))
 }
 
 fn read_submit(body: &[u8]) -> Reading
     ensures { result ≡ whole_or15 2 17 body.now (submit_in body.now) }
 {
     if body.len() < 17 {
-        return Reading::CutShort(2);
+        return Err(ReadError::CutShort(2));
     }
     let planner = body[0];
     let ask = Ask {
-        id: fields::field_4(body, 1),
-        w: fields::field_2(body, 5),
-        h: fields::field_2(body, 7),
-        e: fields::field_4(body, 9),
-        d: fields::field_4(body, 13),
+        id: u32::from_le_bytes(fields::bytes_at(body, 1)),
+        w: u16::from_le_bytes(fields::bytes_at(body, 5)),
+        h: u16::from_le_bytes(fields::bytes_at(body, 7)),
+        e: u32::from_le_bytes(fields::bytes_at(body, 9)),
+        d: u32::from_le_bytes(fields::bytes_at(body, 13)),
     };
-    Reading::Got(Event::Submit { planner, ask }, 18)
+    Ok(Some((Event::Submit { planner, ask }, 18)))
 }
 
-fn read_clock(body: &[u8]) -> Reading
-    ensures { result ≡ whole_or15 3 4 body.now (clock_in body.now) }
+// The one number of a clock record and of a withdrawal.
+fn read_number(kind: u8, body: &[u8]) -> Result<u32, ReadError>
+    ensures { result ≡ (if ltb (length body.now) 4 then Err (ReadError.CutShort kind) else Ok (field 0 4 body.now)) }
 {
     if body.len() < 4 {
-        return Reading::CutShort(3);
+        return Err(ReadError::CutShort(kind));
     }
-    let instant = fields::field_4(body, 0);
-    Reading::Got(Event::Clock { instant }, 5)
-}
-
-fn read_withdraw(body: &[u8]) -> Reading
-    ensures { result ≡ whole_or15 4 4 body.now (withdraw_in body.now) }
-{
-    if body.len() < 4 {
-        return Reading::CutShort(4);
-    }
-    let id = fields::field_4(body, 0);
-    Reading::Got(Event::Withdraw { id }, 5)
+    Ok(u32::from_le_bytes(fields::bytes_at(body, 0)))
 }
 
 fn read_grid_board(body: &[u8]) -> Reading
     ensures { result ≡ whole_or15 5 5 body.now (grid_board_in body.now) }
 {
     if body.len() < 5 {
-        return Reading::CutShort(5);
+        return Err(ReadError::CutShort(5));
     }
-    let columns = fields::field_2(body, 0);
-    let rows = fields::field_2(body, 2);
+    let columns = u16::from_le_bytes(fields::bytes_at(body, 0));
+    let rows = u16::from_le_bytes(fields::bytes_at(body, 2));
     let grid = body[4];
-    Reading::Got(
-        Event::GridBoard {
-            columns,
-            rows,
-            grid,
-        },
-        6,
-    )
+    let event = Event::GridBoard {
+        columns,
+        rows,
+        grid,
+    };
+    Ok(Some((event, 6)))
 }
 
 // The kind byte of an event.
@@ -117,31 +107,21 @@ pub fn kind_of(event: Event) -> u8
     ensures { result ≡ kind_of event }
 {
     match event {
-        Event::NewBoard {
-            columns: _,
-            rows: _,
-        } => 1,
-        Event::Submit { planner: _, ask: _ } => 2,
-        Event::Clock { instant: _ } => 3,
-        Event::Withdraw { id: _ } => 4,
-        Event::GridBoard {
-            columns: _,
-            rows: _,
-            grid: _,
-        } => 5,
+        Event::NewBoard { .. } => 1,
+        Event::Submit { .. } => 2,
+        Event::Clock { .. } => 3,
+        Event::Withdraw { .. } => 4,
+        Event::GridBoard { .. } => 5,
     }
 }
 
 // What such an event asks of a planner.
-pub fn submission_of(ask: Ask) -> Submission
-    ensures { result ≡ submission_of ask }
-{
-    Submission {
-        id: ask.id,
-        e: ask.e,
-        d: ask.d,
-        w: ask.w,
-        h: ask.h,
+impl From<Ask> for Submission {
+    ghost from_gives = { λ ask submission. submission ≡ submission_of ask };
+
+    fn from(ask: Ask) -> Submission {
+        let Ask { id, e, d, w, h } = ask;
+        Submission { id, e, d, w, h }
     }
 }
 
@@ -151,27 +131,24 @@ pub fn read_at(s: &[u8], at: usize) -> Reading
     ensures result_value { told_read result ≡ told_read (read_from (drop at s.now)) }
 {
     if s.len() <= at {
-        return Reading::End;
+        return Ok(None);
     }
     let kind = s[at];
-    let from = at + 1;
-    let body = &s[from..];
-    if kind == 1 {
-        return read_new_board(body);
+    let body = &s[at + 1..];
+    match kind {
+        1 => read_new_board(body),
+        2 => read_submit(body),
+        3 => {
+            let instant = read_number(3, body)?;
+            Ok(Some((Event::Clock { instant }, 5)))
+        }
+        4 => {
+            let id = read_number(4, body)?;
+            Ok(Some((Event::Withdraw { id }, 5)))
+        }
+        5 => read_grid_board(body),
+        _ => Err(ReadError::Unknown(kind)),
     }
-    if kind == 2 {
-        return read_submit(body);
-    }
-    if kind == 3 {
-        return read_clock(body);
-    }
-    if kind == 4 {
-        return read_withdraw(body);
-    }
-    if kind == 5 {
-        return read_grid_board(body);
-    }
-    Reading::Unknown(kind)
 }
 
 // THE READER: the event whose record stands at the front, and the bytes it took.
@@ -188,12 +165,12 @@ fn write_new_board(buffer: &mut [u8], columns: u16, rows: u16) -> Written
     ensures buffer_after { buffer.new ≡ written_buffer (Event.NewBoard columns rows) buffer.old }
 {
     if buffer.len() < 5 {
-        return Written::NoRoom;
+        return Err(NoRoom);
     }
-    fields::put_1(buffer, 0, 1);
-    fields::put_2(buffer, 1, columns);
-    fields::put_2(buffer, 3, rows);
-    Written::Length(5)
+    buffer[0] = 1;
+    fields::put(buffer, 1, &columns.to_le_bytes());
+    fields::put(buffer, 3, &rows.to_le_bytes());
+    Ok(5)
 }
 
 fn write_submit(buffer: &mut [u8], planner: u8, ask: Ask) -> Written
@@ -201,40 +178,29 @@ fn write_submit(buffer: &mut [u8], planner: u8, ask: Ask) -> Written
     ensures buffer_after { buffer.new ≡ written_buffer (Event.Submit planner ask) buffer.old }
 {
     if buffer.len() < 18 {
-        return Written::NoRoom;
+        return Err(NoRoom);
     }
-    fields::put_1(buffer, 0, 2);
-    fields::put_1(buffer, 1, planner);
-    fields::put_4(buffer, 2, ask.id);
-    fields::put_2(buffer, 6, ask.w);
-    fields::put_2(buffer, 8, ask.h);
-    fields::put_4(buffer, 10, ask.e);
-    fields::put_4(buffer, 14, ask.d);
-    Written::Length(18)
+    buffer[0] = 2;
+    buffer[1] = planner;
+    fields::put(buffer, 2, &ask.id.to_le_bytes());
+    fields::put(buffer, 6, &ask.w.to_le_bytes());
+    fields::put(buffer, 8, &ask.h.to_le_bytes());
+    fields::put(buffer, 10, &ask.e.to_le_bytes());
+    fields::put(buffer, 14, &ask.d.to_le_bytes());
+    Ok(18)
 }
 
-fn write_clock(buffer: &mut [u8], instant: u32) -> Written
-    ensures value { result ≡ written (Event.Clock instant) (length buffer.old) }
-    ensures buffer_after { buffer.new ≡ written_buffer (Event.Clock instant) buffer.old }
+// Of a kind with one number: a clock record, a withdrawal.
+fn write_number(buffer: &mut [u8], kind: u8, number: u32) -> Written
+    ensures value { result ≡ (if leb 5 (length buffer.old) then Ok 5 else Err (record {})) }
+    ensures buffer_after { buffer.new ≡ (if leb 5 (length buffer.old) then over_front (kind ∷ bytes_of 4 number) buffer.old else buffer.old) }
 {
     if buffer.len() < 5 {
-        return Written::NoRoom;
+        return Err(NoRoom);
     }
-    fields::put_1(buffer, 0, 3);
-    fields::put_4(buffer, 1, instant);
-    Written::Length(5)
-}
-
-fn write_withdraw(buffer: &mut [u8], id: u32) -> Written
-    ensures value { result ≡ written (Event.Withdraw id) (length buffer.old) }
-    ensures buffer_after { buffer.new ≡ written_buffer (Event.Withdraw id) buffer.old }
-{
-    if buffer.len() < 5 {
-        return Written::NoRoom;
-    }
-    fields::put_1(buffer, 0, 4);
-    fields::put_4(buffer, 1, id);
-    Written::Length(5)
+    buffer[0] = kind;
+    fields::put(buffer, 1, &number.to_le_bytes());
+    Ok(5)
 }
 
 fn write_grid_board(buffer: &mut [u8], columns: u16, rows: u16, grid: u8) -> Written
@@ -242,13 +208,13 @@ fn write_grid_board(buffer: &mut [u8], columns: u16, rows: u16, grid: u8) -> Wri
     ensures buffer_after { buffer.new ≡ written_buffer (Event.GridBoard columns rows grid) buffer.old }
 {
     if buffer.len() < 6 {
-        return Written::NoRoom;
+        return Err(NoRoom);
     }
-    fields::put_1(buffer, 0, 5);
-    fields::put_2(buffer, 1, columns);
-    fields::put_2(buffer, 3, rows);
-    fields::put_1(buffer, 5, grid);
-    Written::Length(6)
+    buffer[0] = 5;
+    fields::put(buffer, 1, &columns.to_le_bytes());
+    fields::put(buffer, 3, &rows.to_le_bytes());
+    buffer[5] = grid;
+    Ok(6)
 }
 
 // THE WRITER: one record at the front of a lent buffer; bytes beyond it stay, and a refusal leaves every byte.
@@ -260,8 +226,8 @@ pub fn write(buffer: &mut [u8], v: Event) -> Written
     match v {
         Event::NewBoard { columns, rows } => write_new_board(buffer, columns, rows),
         Event::Submit { planner, ask } => write_submit(buffer, planner, ask),
-        Event::Clock { instant } => write_clock(buffer, instant),
-        Event::Withdraw { id } => write_withdraw(buffer, id),
+        Event::Clock { instant } => write_number(buffer, 3, instant),
+        Event::Withdraw { id } => write_number(buffer, 4, id),
         Event::GridBoard {
             columns,
             rows,

@@ -7,8 +7,9 @@ use native.Mathlib.Decide.{dec_lt, ℕ_discrete as dec_eq}
 use native.Mathlib.Omega.{arith}
 use borrow.Author.Tests.{lt-ltb, le-ltb}
 use lib.ListN.{length, take, drop}
-use Rattle.events.specs.declared.Reading.{Reading}
-use Rattle.events.specs.declared.Reading.TheVariants.{End, Got, CutShort, Unknown}
+use Rattle.std.specs.Prelude.{Ok, Err}
+use Rattle.events.specs.Records.{Reading}
+use Rattle.events.specs.declared.ReadError.TheVariants.{CutShort, Unknown}
 use Rattle.events.specs.Records.{read_from}
 use Rattle.session.specs.Recording.{Run, ran_from, room_for}
 use Rattle.session.proofs.Recorded.{run-few}
@@ -17,14 +18,13 @@ use Rattle.reader.specs.Reader.{held_of, Heard, is_full, holds_on, meets_strange
 use Rattle.reader.proofs.Ends.{heard-open, heard-closed, alone, behind}
 
 -- what is no stranger is held
-pub stops-known : (r : Reader) (run : Run) (rest : List ℕ) (taken : ℕ) (x : Reading) → ((k : ℕ) → x ≡ Unknown k → ⊥) → stops_before r run rest taken x ≡ holds_on r run rest taken
+pub stops-known : (r : Reader) (run : Run) (rest : List ℕ) (taken : ℕ) (x : Reading) → ((k : ℕ) → x ≡ Err (Unknown k) → ⊥) → stops_before r run rest taken x ≡ holds_on r run rest taken
 unfolding stops_before
-stops-known r run rest taken End f = refl
-stops-known r run rest taken (Got v n) f = refl
-stops-known r run rest taken (CutShort k) f = refl
-stops-known r run rest taken (Unknown k) f = absurd (f k refl)
+stops-known r run rest taken (Ok x) f = refl
+stops-known r run rest taken (Err (CutShort k)) f = refl
+stops-known r run rest taken (Err (Unknown k)) f = absurd (f k refl)
 
-stops-strange : (r : Reader) (run : Run) (rest : List ℕ) (taken k : ℕ) → stops_before r run rest taken (Unknown k) ≡ meets_stranger r run taken k
+stops-strange : (r : Reader) (run : Run) (rest : List ℕ) (taken k : ℕ) → stops_before r run rest taken (Err (Unknown k)) ≡ meets_stranger r run taken k
 unfolding stops_before
 stops-strange r run rest taken k = refl
 
@@ -40,19 +40,18 @@ module _ (P : Heard → Type 0) (r : Reader) (kept : ℕ) (bytes : List ℕ) (wo
   rest = drop run.taken bytes
 
   pub over_by : (length run.lines ≡ room → P (is_full r kept run))
-      → (length run.lines < room → (k : ℕ) → read_from rest ≡ Unknown k → P (meets_stranger r run (length bytes - kept) k))
-      → (length run.lines < room → ((k : ℕ) → read_from rest ≡ Unknown k → ⊥) → P (holds_on r run rest (length bytes - kept))) → P (heard_over r kept bytes words)
+      → (length run.lines < room → (k : ℕ) → read_from rest ≡ Err (Unknown k) → P (meets_stranger r run (length bytes - kept) k))
+      → (length run.lines < room → ((k : ℕ) → read_from rest ≡ Err (Unknown k) → ⊥) → P (holds_on r run rest (length bytes - kept))) → P (heard_over r kept bytes words)
   unfolding heard_over
   over_by full strange holds = go (dec_lt (length run.lines) room)
     where
-      known : length run.lines < room → (x : Reading) → read_from rest ≡ x → ((k : ℕ) → x ≡ Unknown k → ⊥) → P (stops_before r run rest (length bytes - kept) x)
+      known : length run.lines < room → (x : Reading) → read_from rest ≡ x → ((k : ℕ) → x ≡ Err (Unknown k) → ⊥) → P (stops_before r run rest (length bytes - kept) x)
       known q x e f = subst P (sym (stops-known r run rest (length bytes - kept) x f)) (holds q (λ k z. f k (sym e ∙ z)))
 
       stops : length run.lines < room → (x : Reading) → read_from rest ≡ x → P (stops_before r run rest (length bytes - kept) x)
-      stops q (Unknown k) e = subst P (sym (stops-strange r run rest (length bytes - kept) k)) (strange q k e)
-      stops q End e = known q End e (λ k z. let y : ◌≡◌ {A = ℕ} 0 1 = cc in omega arith)
-      stops q (Got v m) e = known q (Got v m) e (λ k z. let y : ◌≡◌ {A = ℕ} 0 1 = cc in omega arith)
-      stops q (CutShort j) e = known q (CutShort j) e (λ k z. let y : ◌≡◌ {A = ℕ} 0 1 = cc in omega arith)
+      stops q (Err (Unknown k)) e = subst P (sym (stops-strange r run rest (length bytes - kept) k)) (strange q k e)
+      stops q (Ok x) e = known q (Ok x) e (λ k z. let y : ◌≡◌ {A = ℕ} 0 1 = cc in omega arith)
+      stops q (Err (CutShort j)) e = known q (Err (CutShort j)) e (λ k z. let y : ◌≡◌ {A = ℕ} 0 1 = cc in omega arith)
 
       go : Dec (length run.lines < room) → P (heard_over r kept bytes words)
       go (yes q) = rw (lt-ltb (length run.lines) room q) (stops q (read_from rest) refl)

@@ -1,27 +1,26 @@
 -- FOR EVERY WAY TO CUT A RECORDING INTO PIECES: what the reader tells of them, one after the other, is how the whole goes. Assumes nothing.
-use Prim.Native.Nat.{ℕ, zero, suc, ◌+◌, ◌-◌, ◌/◌, ◌≤◌, ◌<◌, min}
+use Prim.Native.Nat.{ℕ, suc, ◌+◌, ◌-◌, ◌≤◌, ◌<◌, min}
 use mathlib.Core.Path.{◌≡◌, refl, sym, ap, ap₂, ◌∙◌, subst}
 use mathlib.Core.Logic.{◌⊎◌, inl, inr}
 use mathlib.Core.Bool.{Bool, true, false, cond}
 use mathlib.Core.List.{List, [], ◌∷◌, ◌++◌, append-nil, append_assoc}
-use native.Mathlib.Nat.{zero-add}
 use native.Mathlib.Decide.{dec_lt, ℕ_discrete as dec_eq}
 use native.Mathlib.Omega.{arith}
-use borrow.Author.Tests.{lt-ltb, le-ltb, eq-eqb, ne_eqb, ltb-true, ltb-false}
+use borrow.Author.Tests.{lt-ltb, le-ltb, eq-eqb, ne_eqb}
 use lib.Dec.{ltb, eqb}
 use lib.ListN.{length, take, drop, length-append, length-take, length-drop, take-append-drop}
 use lib.Seq.{drop-append-le, drop-append-add, drop-append_seam, take-append_seam, take-append-add}
 use Rattle.lists.specs.Lists.{over_front}
-use Rattle.board.specs.Answers.{bare}
 use Rattle.events.specs.declared.Event.{Event}
-use Rattle.events.specs.declared.Reading.{Reading}
-use Rattle.events.specs.declared.Reading.TheVariants.{End, Got, CutShort, Unknown}
+use Rattle.std.specs.Prelude.{Ok, Err, Some, None}
+use Rattle.events.specs.Records.{Reading}
+use Rattle.events.specs.declared.ReadError.TheVariants.{CutShort, Unknown}
 use Rattle.events.specs.Records.{read_from}
 use Rattle.events.proofs.Pieces.{Begun, begun-few, got-shorter, unknown-longer}
 use Rattle.session.specs.declared.Ending.{Ending}
 use Rattle.session.specs.declared.Ending.TheVariants.{NotYet, AtEnd, In15, In16, AtLast, PastLast}
-use Rattle.session.specs.Recording.{Line, stop_line, Story, ends_in, story_from, story, Run, ran_from, room_for, most_events, first_state}
-use Rattle.session.proofs.Recorded.{told, run-story, run-few, run-stops, run_inside, Began, run-began, story-none, story-cut, story-strange, story-end}
+use Rattle.session.specs.Recording.{Line, stop_line, Story, ends_in, story_from, story, Run, ran_from, room_for, most_events}
+use Rattle.session.proofs.Recorded.{told, run-story, run-stops, run_inside, Began, run-began, story-none, story-cut, story-strange, story-end}
 use Rattle.reader.specs.declared.Reader.{Reader}
 use Rattle.reader.specs.Reader.{first_reader, held_of, Heard, after, is_full, holds_on, meets_stranger, heard_over, passed_over, open?, later_end, heard, end_in, end_of, last_lines}
 use Rattle.reader.proofs.Cases.{over_by, heard-by}
@@ -198,7 +197,7 @@ module _ (r : Reader) (s : Sane r) (o : open? r.end ≡ true) (p more : List ℕ
     taken_is = omega (arith, long)
 
     -- an unknown kind
-    strange-step : (k : ℕ) → read_from rest ≡ Unknown k → Goes r (p ++ more) (meets_stranger r run (length bytes - kept) k)
+    strange-step : (k : ℕ) → read_from rest ≡ Err (Unknown k) → Goes r (p ++ more) (meets_stranger r run (length bytes - kept) k)
     unfolding open? later_end
     strange-step k e = record {
       tells =
@@ -224,7 +223,7 @@ module _ (r : Reader) (s : Sane r) (o : open? r.end ≡ true) (p more : List ℕ
         stranger = story-strange (most_events - n - 1) run.state n (rest ++ more) k (unknown-longer rest more k e)
 
     -- the begin of a record
-    hold-step : ((k : ℕ) → read_from rest ≡ Unknown k → ⊥) → Goes r (p ++ more) (holds_on r run rest (length bytes - kept))
+    hold-step : ((k : ℕ) → read_from rest ≡ Err (Unknown k) → ⊥) → Goes r (p ++ more) (holds_on r run rest (length bytes - kept))
     unfolding open?
     hold-step f = record {
       tells = follows ∙ ap (told run.lines run.events) (ap (story_from (most_events - n) run.state n) (sym left_over) ∙ sym (rest-open then (drop (length bytes - kept) (p ++ more)) refl));
@@ -377,16 +376,16 @@ closed-tells r s = go (open? r.end) refl
 
     ends : (o : open? r.end ≡ true) (x : Reading) → read_from (held_of r) ≡ x
         → story_from (suc (most_events - r.number - 1)) r.state r.number (held_of r) ≡ ends_in (last_lines r.number (end_in x)) r.state (end_in x)
-    ends o End e = story-end (most_events - r.number - 1) r.state r.number (held_of r) e ∙ nothing
+    ends o (Ok None) e = story-end (most_events - r.number - 1) r.state r.number (held_of r) e ∙ nothing
       where
-        nothing : ends_in [] r.state AtEnd ≡ ends_in (last_lines r.number (end_in End)) r.state (end_in End)
+        nothing : ends_in [] r.state AtEnd ≡ ends_in (last_lines r.number (end_in (Ok None))) r.state (end_in (Ok None))
         nothing = unfold last_lines end_in in refl
-    ends o (CutShort k) e = story-cut (most_events - r.number - 1) r.state r.number (held_of r) k e ∙ its-line
+    ends o (Err (CutShort k)) e = story-cut (most_events - r.number - 1) r.state r.number (held_of r) k e ∙ its-line
       where
-        its-line : ends_in (stop_line (suc r.number) k 15 ∷ []) r.state (In15 k) ≡ ends_in (last_lines r.number (end_in (CutShort k))) r.state (end_in (CutShort k))
+        its-line : ends_in (stop_line (suc r.number) k 15 ∷ []) r.state (In15 k) ≡ ends_in (last_lines r.number (end_in (Err (CutShort k)))) r.state (end_in (Err (CutShort k)))
         its-line = unfold last_lines end_in in refl
-    ends o (Got v n) e = absurd (s.begun.not-whole v n e)
-    ends o (Unknown k) e = absurd (s.begun.no-stranger k e)
+    ends o (Ok (Some (v, n))) e = absurd (s.begun.not-whole v n e)
+    ends o (Err (Unknown k)) e = absurd (s.begun.no-stranger k e)
 
     go : (b : Bool) → open? r.end ≡ b → rest_of r [] ≡ closing r
     go false e = closed e

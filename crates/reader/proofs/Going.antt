@@ -1,8 +1,8 @@
 -- A piece is gone over by itself, or behind the held bytes: what `reader::go_on` and `reader::feed` answer. Assumes nothing.
-use Prim.Native.Nat.{ℕ, ◌+◌, ◌-◌, ◌*◌, ◌≤◌, min}
-use mathlib.Core.Path.{◌≡◌, refl, sym, ap, ap₂, ◌∙◌, subst}
+use Prim.Native.Nat.{ℕ, ◌*◌, ◌≤◌, min}
+use mathlib.Core.Path.{◌≡◌, sym, ap, ◌∙◌, subst}
 use mathlib.Core.Bool.{true, false}
-use mathlib.Core.List.{List, [], ◌++◌, append_assoc}
+use mathlib.Core.List.{List, ◌++◌, append_assoc}
 use native.Mathlib.Omega.{arith}
 use lib.ListN.{length, take, drop, length-append, length-drop, length-take, take-append-drop}
 use lib.Seq.{drop-append-le}
@@ -10,7 +10,7 @@ use Rattle.lists.specs.Lists.{over_front}
 use Rattle.session.specs.Recording.{line_numbers}
 use Rattle.reader.specs.declared.Reader.{Reader}
 use Rattle.reader.specs.declared.Fed.{Fed}
-use Rattle.reader.specs.Reader.{held_of, heard_over, goes_on_with, heard, open?, later_end, passed_over, as_fed, fed, fed_buffer}
+use Rattle.reader.specs.Reader.{held_of, heard_over, goes_on_with, open?, later_end, passed_over, as_fed, fed, fed_buffer}
 use Rattle.reader.specs.Told.{Told}
 use Rattle.reader.proofs.Bounds.{heard-bounded}
 use Rattle.reader.proofs.Ends.{heard-open, heard-closed, alone, behind}
@@ -24,16 +24,16 @@ module _ (r : Reader) (piece answers : List ℕ) where
   -- a record has begun: six words are lent
   module _ {kept words : ℕ} {bytes : List ℕ} (k : kept ≡ length (held_of r)) (n : kept ≡ 0 → ⊥) (b : bytes ≡ take 18 (held_of r ++ piece)) (w : words ≡ min (length answers) 6) where
     abbrev lent : List ℕ
-    lent = take (words - 0) answers
+    lent = take words answers
 
-    pub goes-behind : {f : Fed} {part after : List ℕ} → length part ≡ length lent → Told (heard_over r kept bytes (length lent)) f lent part → after ≡ part ++ drop (words - 0) answers
+    pub goes-behind : {f : Fed} {part after : List ℕ} → length part ≡ length lent → Told (heard_over r kept bytes (length lent)) f lent part → after ≡ part ++ drop words answers
         → Told (goes_on_with r piece (length answers)) f answers after
     goes-behind {f} {part} {after} s t a =
         subst (λ h. Told h f answers after) (same ∙ sym (behind r piece (length answers) (λ x. n (k ∙ x))))
-        record { answer = t.answer; lines = a ∙ ap (λ x. x ++ drop (words - 0) answers) t.lines ∙ joined }
+        record { answer = t.answer; lines = a ∙ ap (λ x. x ++ drop words answers) t.lines ∙ joined }
       where
         long : length lent ≡ min (length answers) 6
-        long = omega (arith, length-take (words - 0) answers)
+        long = omega (arith, length-take words answers)
 
         same : heard_over r kept bytes (length lent) ≡ heard_over r (length (held_of r)) (take 18 (held_of r ++ piece)) (min (length answers) 6)
         same = λ i. heard_over r (k i) (b i) (long i)
@@ -44,9 +44,9 @@ module _ (r : Reader) (piece answers : List ℕ) where
         fits : length ls ≤ length lent
         fits = omega (arith, s, ap length t.lines, length-append ls (drop (length ls) lent), length-drop (length ls) lent)
 
-        joined : over_front ls lent ++ drop (words - 0) answers ≡ over_front ls answers
-        joined = append_assoc ls (drop (length ls) lent) (drop (words - 0) answers)
-            ∙ ap (λ x. ls ++ x) (sym (drop-append-le (length ls) lent (drop (words - 0) answers) fits) ∙ ap (drop (length ls)) (take-append-drop (words - 0) answers))
+        joined : over_front ls lent ++ drop words answers ≡ over_front ls answers
+        joined = append_assoc ls (drop (length ls) lent) (drop words answers)
+            ∙ ap (λ x. ls ++ x) (sym (drop-append-le (length ls) lent (drop words answers) fits) ∙ ap (drop (length ls)) (take-append-drop words answers))
 
   -- the bounds that follow
   pub bounds : {f : Fed} → f ≡ fed r piece (length answers) → (f.count * 6 ≤ length answers) × (f.taken ≤ length piece)

@@ -1,7 +1,7 @@
 -- A run over the bytes that have come, and what its reader tells of it: the three ways in which `reader::hear` answers. Assumes nothing.
 use Prim.Native.Nat.{ℕ, suc, ◌+◌, ◌-◌, ◌*◌, ◌≤◌, ◌<◌}
-use mathlib.Core.Path.{◌≡◌, refl, sym, ap, ap₂, ◌∙◌, subst}
-use mathlib.Core.Bool.{Bool, true, false, cond}
+use mathlib.Core.Path.{◌≡◌, sym, ap, ap₂, ◌∙◌}
+use mathlib.Core.Bool.{true, cond}
 use mathlib.Core.List.{List, [], ◌∷◌, ◌++◌}
 use native.Mathlib.Nat.{zero-add}
 use native.Mathlib.Omega.{arith}
@@ -11,12 +11,11 @@ use lib.ListN.{length, drop, length-append, length-drop}
 use lib.Seq.{sets, sets-eq}
 use Rattle.lists.specs.Lists.{over_front}
 use Rattle.lists.proofs.Stores.{sets-append}
-use Rattle.board.specs.Answers.{bare}
-use Rattle.events.specs.declared.Event.{Event}
-use Rattle.events.specs.declared.Reading.{Reading}
-use Rattle.events.specs.declared.Reading.TheVariants.{End, Got, CutShort, Unknown}
+use Rattle.std.specs.Prelude.{Ok, Err, Some, None}
+use Rattle.events.specs.Records.{Reading}
+use Rattle.events.specs.declared.ReadError.TheVariants.{CutShort, Unknown}
 use Rattle.events.specs.Records.{read_from}
-use Rattle.events.proofs.Pieces.{Begun, begun-few}
+use Rattle.events.proofs.Pieces.{Begun}
 use Rattle.session.specs.declared.Ending.{Ending}
 use Rattle.session.specs.declared.Ending.TheVariants.{NotYet, In16, AtLast}
 use Rattle.session.specs.declared.Ran.{Ran}
@@ -24,22 +23,20 @@ use Rattle.session.specs.Recording.{Line, stop_line, Run, ran_from, room_for, li
 use Rattle.session.proofs.Running.{words_append, words-length}
 use Rattle.session.proofs.Recorded.{run-few, run-stops}
 use Rattle.reader.specs.declared.Reader.{Reader}
-use Rattle.reader.specs.declared.Fed.{Fed}
-use Rattle.reader.specs.Reader.{Heard, after, holds_on, stops_before, heard_over, as_fed}
+use Rattle.reader.specs.Reader.{stops_before, heard_over}
 use Rattle.reader.specs.Told.{judged, Told}
 use Rattle.reader.proofs.Cases.{stops-known}
 
 -- known, or a stranger
-pub judged-known : (x : Reading) → (judged x).known ≡ true → (k : ℕ) → x ≡ Unknown k → ⊥
+pub judged-known : (x : Reading) → judged x ≡ None → (k : ℕ) → x ≡ Err (Unknown k) → ⊥
 unfolding judged
-judged-known x h k e = let q : (judged x).known ≡ false = ap (λ y. (judged y).known) e in let z : true ≡ false = sym h ∙ q in absurd (let w : ◌≡◌ {A = ℕ} 0 1 = cc in omega arith)
+judged-known x h k e = let q : None ≡ Some k = sym h ∙ ap judged e in let w : ◌≡◌ {A = ℕ} 0 1 = cc in omega arith
 
-pub judged-strange : (x : Reading) → (judged x).known ≡ false → x ≡ Unknown (judged x).kind
+pub judged-strange : (x : Reading) {k : ℕ} → judged x ≡ Some k → x ≡ Err (Unknown k)
 unfolding judged
-judged-strange (Unknown k) h = refl
-judged-strange End h = absurd (let w : ◌≡◌ {A = ℕ} 0 1 = cc in omega arith)
-judged-strange (Got v n) h = absurd (let w : ◌≡◌ {A = ℕ} 0 1 = cc in omega arith)
-judged-strange (CutShort k) h = absurd (let w : ◌≡◌ {A = ℕ} 0 1 = cc in omega arith)
+judged-strange (Ok x) h = absurd (let w : ◌≡◌ {A = ℕ} 0 1 = cc in omega arith)
+judged-strange (Err (CutShort j)) h = absurd (let w : ◌≡◌ {A = ℕ} 0 1 = cc in omega arith)
+judged-strange (Err (Unknown j)) {k} h = let q : j ≡ k = cc in ap (λ y. Err (Unknown y)) q
 
 -- a run, as the code has it
 module _ (r : Reader) (kept : ℕ) (bytes lent : List ℕ) (x : Ran) (e : x ≡ ran r.state r.number bytes (length lent)) where
@@ -60,6 +57,9 @@ module _ (r : Reader) (kept : ℕ) (bytes lent : List ℕ) (x : Ran) (e : x ≡ 
 
   pub few : x.count ≤ room
   few = let h = run-few room r.state r.number bytes in omega (arith, counted)
+
+  pub fewer : {most : ℕ} → most ≡ room → (x.count ≡ most → ⊥) → x.count < room
+  fewer m f = let h = few in let y : x.count ≡ room → ⊥ = λ q. f (q ∙ sym m) in omega arith
 
   -- THE ROOM IS FULL
   pub hear-full : x.count ≡ room → {answers : List ℕ} → answers ≡ ran_buffer r.state r.number bytes lent
@@ -92,14 +92,14 @@ module _ (r : Reader) (kept : ℕ) (bytes lent : List ℕ) (x : Ran) (e : x ≡ 
     rest-is = ap (λ c. drop c bytes) taken-bytes
 
     -- what is left begins a record
-    pub rest-begun : (judged (read_from (drop x.taken bytes))).known ≡ true → Begun (drop x.taken bytes)
+    pub rest-begun : ((k : ℕ) → read_from (drop x.taken bytes) ≡ Err (Unknown k) → ⊥) → Begun (drop x.taken bytes)
     rest-begun g = record {
       not-whole = λ v n q. run-stops room r.state r.number bytes (omega (arith, counted)) v n (sym (ap read_from rest-is) ∙ q);
-      no-stranger = λ k q. judged-known (read_from (drop x.taken bytes)) g k q;
+      no-stranger = g;
     }
 
     -- AN UNKNOWN KIND gets its line
-    pub hear-strange : {kind : ℕ} → read_from (drop x.taken bytes) ≡ Unknown kind → {before answers : List ℕ} → before ≡ ran_buffer r.state r.number bytes lent
+    pub hear-strange : {kind : ℕ} → read_from (drop x.taken bytes) ≡ Err (Unknown kind) → {before answers : List ℕ} → before ≡ ran_buffer r.state r.number bytes lent
         → {number taken count : ℕ} → number ≡ r.number + x.count → taken ≡ length bytes - kept → count ≡ x.count + 1
         → answers ≡ sets before (x.count * 6) ((number + 1) ∷ kind ∷ 16 ∷ 0 ∷ 0 ∷ 0 ∷ [])
         → Told (heard_over r kept bytes (length lent))
@@ -143,7 +143,7 @@ module _ (r : Reader) (kept : ℕ) (bytes lent : List ℕ) (x : Ran) (e : x ≡ 
         six-is = let y : number + 1 ≡ suc (r.number + length run.lines) = omega (arith, place) in λ i. y i ∷ kind ∷ 16 ∷ 0 ∷ 0 ∷ 0 ∷ []
 
     -- THE BEGIN OF A RECORD is held
-    pub hear-held : (judged (read_from (drop x.taken bytes))).known ≡ true → {answers held : List ℕ} → answers ≡ ran_buffer r.state r.number bytes lent
+    pub hear-held : ((k : ℕ) → read_from (drop x.taken bytes) ≡ Err (Unknown k) → ⊥) → {answers held : List ℕ} → answers ≡ ran_buffer r.state r.number bytes lent
         → held ≡ over_front (drop x.taken bytes) r.held
         → {number size taken : ℕ} → number ≡ r.number + x.count → size ≡ length bytes - x.taken → taken ≡ length bytes - kept
         → Told (heard_over r kept bytes (length lent))
@@ -165,5 +165,5 @@ module _ (r : Reader) (kept : ℕ) (bytes lent : List ℕ) (x : Ran) (e : x ≡ 
           lines = b;
         }
       where
-        known : (k : ℕ) → read_from (drop run.taken bytes) ≡ Unknown k → ⊥
-        known k u = judged-known (read_from (drop x.taken bytes)) g k (ap read_from rest-is ∙ u)
+        known : (k : ℕ) → read_from (drop run.taken bytes) ≡ Err (Unknown k) → ⊥
+        known k u = g k (ap read_from rest-is ∙ u)

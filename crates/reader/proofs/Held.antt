@@ -1,7 +1,7 @@
 -- The held bytes: the begin of a record put to their front, and the bytes of a piece put behind them. Assumes nothing.
 use Prim.Native.Nat.{ℕ, ◌+◌, ◌-◌, ◌≤◌, min}
-use mathlib.Core.Path.{◌≡◌, refl, sym, ap, ap₂, ◌∙◌}
-use mathlib.Core.List.{List, [], ◌++◌}
+use mathlib.Core.Path.{◌≡◌, sym, ap, ap₂, ◌∙◌}
+use mathlib.Core.List.{List, ◌++◌}
 use native.Mathlib.Nat.{zero-add}
 use native.Mathlib.Decide.{dec_le}
 use native.Mathlib.Omega.{arith}
@@ -26,20 +26,17 @@ front_of_lem bytes held after at h k e =
 
 -- the bytes of a piece behind those that are kept, 18 in all at most
 pub behind-kept : (held piece after : List ℕ) (kept more size : ℕ) → length held ≡ 18 → kept ≤ 18 → more ≡ min (18 - kept) (length piece)
-    → size ≡ kept + length (take (more - 0) piece) → after ≡ sets held kept (take (more - 0) piece)
+    → size ≡ kept + length (take more piece) → after ≡ sets held kept (take more piece)
     → (size ≤ 18) × (take size after ≡ take 18 (take kept held ++ piece))
 behind-kept held piece after kept more size l k m s e = (
-  omega (arith, long, ap length whole),
-  ap₂ take seam (e ∙ ap (sets held kept) whole ∙ sets-eq (take more piece) held kept (omega (arith, long)))
+  omega (arith, long),
+  ap₂ take seam (e ∙ sets-eq (take more piece) held kept (omega (arith, long)))
       ∙ take-append_seam (take kept held ++ take more piece) _
       ∙ ap (λ x. take kept held ++ x) (ap (λ n. take n piece) m ∙ take-least (18 - kept) piece)
       ∙ sym (take-append-add (take kept held) piece (18 - kept))
       ∙ ap (λ n. take n (take kept held ++ piece)) eighteen,
 )
   where
-    whole : take (more - 0) piece ≡ take more piece
-    whole = ap (λ n. take n piece) (let y : more - 0 ≡ more = omega arith in y)
-
     front : length (take kept held) ≡ kept
     front = length-take-le kept held (omega arith)
 
@@ -47,15 +44,15 @@ behind-kept held piece after kept more size l k m s e = (
     long = length-take-le more piece (omega arith)
 
     seam : size ≡ length (take kept held ++ take more piece)
-    seam = omega (arith, length-append (take kept held) (take more piece), front, ap length whole)
+    seam = omega (arith, length-append (take kept held) (take more piece), front)
 
     eighteen : length (take kept held) + (18 - kept) ≡ 18
     eighteen = omega (arith, front)
 
 -- those that are held, as code lends them
-pub kept-is : (size : ℕ) (held : List ℕ) (kept : ℕ) → length held ≡ 18 → kept ≡ min size 18 → take (kept - 0) held ≡ take size held
+pub kept-is : (size : ℕ) (held : List ℕ) (kept : ℕ) → length held ≡ 18 → kept ≡ min size 18 → take kept held ≡ take size held
 kept-is size held kept l e =
-    ap (λ n. take n held) (let y : kept - 0 ≡ min size (length held) = omega arith in y) ∙ take-least size held
+    ap (λ n. take n held) (let y : kept ≡ min size (length held) = omega arith in y) ∙ take-least size held
 
 pub kept-length : (size : ℕ) (held : List ℕ) (kept : ℕ) → length held ≡ 18 → kept ≡ min size 18 → kept ≡ length (take size held)
 kept-length size held kept l e = omega (arith, length-take size held)

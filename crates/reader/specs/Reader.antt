@@ -1,11 +1,9 @@
 -- A recording that comes in pieces: where its reader stands between two of them, and what it tells of each. Assumes nothing.
-use Rattle.std.specs.Prelude.{ℕ, suc, ◌+◌, ◌-◌, min, Bool, true, false, cond, List, [], ◌∷◌, ◌++◌, ltb, eqb, length, take, drop, replicate}
+use Rattle.std.specs.Prelude.{ℕ, suc, ◌+◌, ◌-◌, min, Bool, true, false, cond, List, [], ◌∷◌, ◌++◌, ltb, eqb, length, take, drop, replicate, Ok, Err}
 use Rattle.lists.specs.Lists.{over_front}
-use Rattle.board.specs.Answers.{bare}
 use Rattle.events.specs.declared.Event.{Event}
-use Rattle.events.specs.declared.Reading.{Reading}
-use Rattle.events.specs.declared.Reading.TheVariants.{End, Got, CutShort, Unknown}
-use Rattle.events.specs.Records.{read_from}
+use Rattle.events.specs.declared.ReadError.TheVariants.{CutShort, Unknown}
+use Rattle.events.specs.Records.{Reading, read_from}
 use Rattle.session.specs.declared.Ending.{Ending}
 use Rattle.session.specs.declared.Ending.TheVariants.{NotYet, AtEnd, In15, In16, AtLast, PastLast}
 use Rattle.session.specs.Recording.{Line, stop_line, Run, ran_from, room_for, line_numbers, most_events, first_state}
@@ -56,10 +54,9 @@ meets_stranger r run taken k = record {
 
 -- there was room for more: what is next is no whole record
 unfoldable pub stops_before : Reader → Run → List ℕ → ℕ → Reading → Heard
-stops_before r run rest taken End = holds_on r run rest taken
-stops_before r run rest taken (Got v n) = holds_on r run rest taken
-stops_before r run rest taken (CutShort k) = holds_on r run rest taken
-stops_before r run rest taken (Unknown k) = meets_stranger r run taken k
+stops_before r run rest taken (Ok x) = holds_on r run rest taken
+stops_before r run rest taken (Err (CutShort k)) = holds_on r run rest taken
+stops_before r run rest taken (Err (Unknown k)) = meets_stranger r run taken k
 
 -- a run over some bytes, the first of which were held: as far as there is room
 unfoldable pub heard_over : Reader → ℕ → List ℕ → ℕ → Heard
@@ -121,10 +118,9 @@ fed_buffer r piece answers = over_front (line_numbers (heard r piece (length ans
 
 -- the input has ended in what is held: "a known kind with too few bytes is 15"
 unfoldable pub end_in : Reading → Ending
-end_in End = AtEnd
-end_in (Got v n) = AtEnd
-end_in (CutShort k) = In15 k
-end_in (Unknown k) = In16 k
+end_in (Ok x) = AtEnd
+end_in (Err (CutShort k)) = In15 k
+end_in (Err (Unknown k)) = In16 k
 
 -- HOW THE RECORDING HAS ENDED, where that is all the input
 unfoldable pub end_of : Reader → Ending

@@ -11,12 +11,12 @@ use lib.ListN.{length, drop, length-drop}
 use lib.Seq.{drop-drop, drop-append-le}
 use Rattle.steps.specs.declared.State.{State}
 use Rattle.events.specs.declared.Event.{Event}
-use Rattle.events.specs.declared.Reading.{Reading}
-use Rattle.events.specs.declared.Reading.TheVariants.{End, Got, CutShort, Unknown}
-use Rattle.events.specs.Records.{kind_of, read_from}
+use Rattle.std.specs.Prelude.{Ok, Err, Some, None}
+use Rattle.events.specs.Records.{Reading}
+use Rattle.events.specs.declared.ReadError.TheVariants.{CutShort, Unknown}
+use Rattle.events.specs.Records.{read_from}
 use Rattle.events.proofs.Calls.{taken-there}
 use Rattle.events.proofs.Pieces.{got-longer}
-use Rattle.board.specs.Answers.{bare}
 use Rattle.session.specs.declared.Ending.TheVariants.{AtEnd, In15, In16, AtLast, PastLast}
 use Rattle.session.specs.Recording.{Line, line_of, stop_line, outcome, Story, ends_in, story_from, Run, still, ran_from}
 use Rattle.session.proofs.Running.{ran-got, ran-none}
@@ -30,7 +30,7 @@ abbrev pub goes_on : ℕ → ℕ → List ℕ → List ℕ → Run → Story
 goes_on left n bytes more r =
     told r.lines r.events (story_from (left - length r.lines) r.state (n + length r.lines) (drop r.taken bytes ++ more))
 
-pub story-got : (left : ℕ) (b : State) (n : ℕ) (bytes : List ℕ) (v : Event) (size : ℕ) → read_from bytes ≡ Got v size
+pub story-got : (left : ℕ) (b : State) (n : ℕ) (bytes : List ℕ) (v : Event) (size : ℕ) → read_from bytes ≡ Ok (Some (v, size))
     → let next : Story = story_from left (outcome b v).state (suc n) (drop size bytes) in
     story_from (suc left) b n bytes
     ≡ record { lines = line_of (suc n) v (outcome b v).answer ∷ next.lines; events = v ∷ next.events; state = next.state; end = next.end }
@@ -56,10 +56,10 @@ run-story (suc left) (suc room) b n bytes more h = go (λ c m ws. run-story left
 
     go : ((c : State) (m : ℕ) (ws : List ℕ) → story_from left c m (ws ++ more) ≡ goes_on left m ws more (ran_from room c m ws)) → (r : Reading) → read_from bytes ≡ r
         → story_from (suc left) b n (bytes ++ more) ≡ goes_on (suc left) n bytes more (ran_from (suc room) b n bytes)
-    go next End e = stopped (rw (e, ran_from))
-    go next (CutShort k) e = stopped (rw (e, ran_from))
-    go next (Unknown k) e = stopped (rw (e, ran_from))
-    go next (Got v size) e =
+    go next (Ok None) e = stopped (rw (e, ran_from))
+    go next (Err (CutShort k)) e = stopped (rw (e, ran_from))
+    go next (Err (Unknown k)) e = stopped (rw (e, ran_from))
+    go next (Ok (Some (v, size))) e =
         let r : Run = ran_from room (outcome b v).state (suc n) (drop size bytes) in
         let k : ℕ = length r.lines in
         let x : left - k ≡ suc left - suc k = omega arith in
@@ -82,29 +82,29 @@ run-few (suc room) b n bytes = go (λ c m ws. run-few room c m ws) (read_from by
   where
     go : ((c : State) (m : ℕ) (ws : List ℕ) → length (ran_from room c m ws).lines ≤ room) → (r : Reading) → read_from bytes ≡ r
         → length (ran_from (suc room) b n bytes).lines ≤ suc room
-    go next End e = rw (e, ran_from) (omega arith)
-    go next (CutShort k) e = rw (e, ran_from) (omega arith)
-    go next (Unknown k) e = rw (e, ran_from) (omega arith)
-    go next (Got v size) e = subst (λ (x : Run). length x.lines ≤ suc room) (sym (ran-got room b n bytes v size e)) (let h = next (outcome b v).state (suc n) (drop size bytes) in omega arith)
+    go next (Ok None) e = rw (e, ran_from) (omega arith)
+    go next (Err (CutShort k)) e = rw (e, ran_from) (omega arith)
+    go next (Err (Unknown k)) e = rw (e, ran_from) (omega arith)
+    go next (Ok (Some (v, size))) e = subst (λ (x : Run). length x.lines ≤ suc room) (sym (ran-got room b n bytes v size e)) (let h = next (outcome b v).state (suc n) (drop size bytes) in omega arith)
 
 -- where there was room for more, the next is no whole record
 pub run-stops : (room : ℕ) (b : State) (n : ℕ) (bytes : List ℕ) → length (ran_from room b n bytes).lines < room
-    → (v : Event) (size : ℕ) → read_from (drop (ran_from room b n bytes).taken bytes) ≡ Got v size → ⊥
+    → (v : Event) (size : ℕ) → read_from (drop (ran_from room b n bytes).taken bytes) ≡ Ok (Some (v, size)) → ⊥
 run-stops zero b n bytes h v size q = absurd (omega arith)
 run-stops (suc room) b n bytes h v size q = go (λ c m ws f x. run-stops room c m ws f v size x) (read_from bytes) refl
   where
-    stopped : ran_from (suc room) b n bytes ≡ still b → read_from bytes ≡ Got v size
+    stopped : ran_from (suc room) b n bytes ≡ still b → read_from bytes ≡ Ok (Some (v, size))
     stopped x = ap (λ (y : Run). read_from (drop y.taken bytes)) (sym x) ∙ q
 
-    none : (r : Reading) → ((w : Event) (m : ℕ) → r ≡ Got w m → ⊥) → read_from bytes ≡ r → ⊥
+    none : (r : Reading) → ((w : Event) (m : ℕ) → r ≡ Ok (Some (w, m)) → ⊥) → read_from bytes ≡ r → ⊥
     none r f e = f v size (sym e ∙ stopped (ran-none (suc room) b n bytes (λ w m x. f w m (sym e ∙ x))))
 
-    go : ((c : State) (m : ℕ) (ws : List ℕ) → length (ran_from room c m ws).lines < room → read_from (drop (ran_from room c m ws).taken ws) ≡ Got v size → ⊥)
+    go : ((c : State) (m : ℕ) (ws : List ℕ) → length (ran_from room c m ws).lines < room → read_from (drop (ran_from room c m ws).taken ws) ≡ Ok (Some (v, size)) → ⊥)
         → (r : Reading) → read_from bytes ≡ r → ⊥
-    go below End e = none End (λ w m x. let z : ◌≡◌ {A = ℕ} 0 1 = cc in omega arith) e
-    go below (CutShort k) e = none (CutShort k) (λ w m x. let z : ◌≡◌ {A = ℕ} 0 1 = cc in omega arith) e
-    go below (Unknown k) e = none (Unknown k) (λ w m x. let z : ◌≡◌ {A = ℕ} 0 1 = cc in omega arith) e
-    go below (Got w m) e =
+    go below (Ok None) e = none (Ok None) (λ w m x. let z : ◌≡◌ {A = ℕ} 0 1 = cc in omega arith) e
+    go below (Err (CutShort k)) e = none (Err (CutShort k)) (λ w m x. let z : ◌≡◌ {A = ℕ} 0 1 = cc in omega arith) e
+    go below (Err (Unknown k)) e = none (Err (Unknown k)) (λ w m x. let z : ◌≡◌ {A = ℕ} 0 1 = cc in omega arith) e
+    go below (Ok (Some (w, m))) e =
         let next : Run = ran_from room (outcome b w).state (suc n) (drop m bytes) in
         let got = ran-got room b n bytes w m e in
         let fewer : suc (length next.lines) < suc room = subst (λ (y : Run). length y.lines < suc room) got h in
@@ -118,10 +118,10 @@ run_inside zero b n bytes = omega arith
 run_inside (suc room) b n bytes = go (λ c m ws. run_inside room c m ws) (read_from bytes) refl
   where
     go : ((c : State) (m : ℕ) (ws : List ℕ) → (ran_from room c m ws).taken ≤ length ws) → (r : Reading) → read_from bytes ≡ r → (ran_from (suc room) b n bytes).taken ≤ length bytes
-    go next End e = rw (e, ran_from) (omega arith)
-    go next (CutShort k) e = rw (e, ran_from) (omega arith)
-    go next (Unknown k) e = rw (e, ran_from) (omega arith)
-    go next (Got v size) e =
+    go next (Ok None) e = rw (e, ran_from) (omega arith)
+    go next (Err (CutShort k)) e = rw (e, ran_from) (omega arith)
+    go next (Err (Unknown k)) e = rw (e, ran_from) (omega arith)
+    go next (Ok (Some (v, size))) e =
         subst (λ (x : Run). x.taken ≤ length bytes) (sym (ran-got room b n bytes v size e))
         (omega (arith, next (outcome b v).state (suc n) (drop size bytes), length-drop size bytes, (taken-there bytes v size e).1))
 
@@ -129,7 +129,7 @@ run_inside (suc room) b n bytes = go (λ c m ws. run_inside room c m ws) (read_f
 pub record Began (bytes : List ℕ) (run : Run) : Type 0 where
   pub event : Event
   pub size : ℕ
-  pub reads : read_from bytes ≡ Got event size
+  pub reads : read_from bytes ≡ Ok (Some (event, size))
   pub within : size ≤ run.taken
   pub line : 0 < length run.lines
 
@@ -147,10 +147,10 @@ run-began (suc room) b n bytes h = go (read_from bytes) refl
         pick (inr x) = let y : 0 < 0 = subst (λ (z : Run). 0 < length z.lines) e x in omega arith
 
     go : (r : Reading) → read_from bytes ≡ r → Began bytes (ran_from (suc room) b n bytes)
-    go End e = none (rw (e, ran_from))
-    go (CutShort k) e = none (rw (e, ran_from))
-    go (Unknown k) e = none (rw (e, ran_from))
-    go (Got v size) e =
+    go (Ok None) e = none (rw (e, ran_from))
+    go (Err (CutShort k)) e = none (rw (e, ran_from))
+    go (Err (Unknown k)) e = none (rw (e, ran_from))
+    go (Ok (Some (v, size))) e =
         subst (Began bytes) (sym (ran-got room b n bytes v size e)) record { event = v; size = size; reads = e; within = omega arith; line = omega arith }
 
 -- where no event may come any more
@@ -160,17 +160,17 @@ story-none b n [] = refl
 story-none b n (x ∷ bytes) = rw (ne_eqb (suc (length bytes)) 0 (λ h. omega arith))
 
 -- what no whole record begins with
-pub story-cut : (left : ℕ) (b : State) (n : ℕ) (bytes : List ℕ) (k : ℕ) → read_from bytes ≡ CutShort k
+pub story-cut : (left : ℕ) (b : State) (n : ℕ) (bytes : List ℕ) (k : ℕ) → read_from bytes ≡ Err (CutShort k)
     → story_from (suc left) b n bytes ≡ ends_in (stop_line (suc n) k 15 ∷ []) b (In15 k)
 unfolding story_from
 story-cut left b n bytes k e = rw (e, story_from)
 
-pub story-strange : (left : ℕ) (b : State) (n : ℕ) (bytes : List ℕ) (k : ℕ) → read_from bytes ≡ Unknown k
+pub story-strange : (left : ℕ) (b : State) (n : ℕ) (bytes : List ℕ) (k : ℕ) → read_from bytes ≡ Err (Unknown k)
     → story_from (suc left) b n bytes ≡ ends_in (stop_line (suc n) k 16 ∷ []) b (In16 k)
 unfolding story_from
 story-strange left b n bytes k e = rw (e, story_from)
 
-pub story-end : (left : ℕ) (b : State) (n : ℕ) (bytes : List ℕ) → read_from bytes ≡ End → story_from (suc left) b n bytes ≡ ends_in [] b AtEnd
+pub story-end : (left : ℕ) (b : State) (n : ℕ) (bytes : List ℕ) → read_from bytes ≡ Ok None → story_from (suc left) b n bytes ≡ ends_in [] b AtEnd
 unfolding story_from
 story-end left b n bytes e = rw (e, story_from)
 
@@ -184,7 +184,7 @@ run-events (suc room) b n bytes = go (λ c m ws. run-events room c m ws) (read_f
     Even x = length x.lines ≡ length x.events
 
     go : ((c : State) (m : ℕ) (ws : List ℕ) → Even (ran_from room c m ws)) → (r : Reading) → read_from bytes ≡ r → Even (ran_from (suc room) b n bytes)
-    go next End e = rw (e, ran_from)
-    go next (CutShort k) e = rw (e, ran_from)
-    go next (Unknown k) e = rw (e, ran_from)
-    go next (Got v size) e = subst Even (sym (ran-got room b n bytes v size e)) (ap suc (next (outcome b v).state (suc n) (drop size bytes)))
+    go next (Ok None) e = rw (e, ran_from)
+    go next (Err (CutShort k)) e = rw (e, ran_from)
+    go next (Err (Unknown k)) e = rw (e, ran_from)
+    go next (Ok (Some (v, size))) e = subst Even (sym (ran-got room b n bytes v size e)) (ap suc (next (outcome b v).state (suc n) (drop size bytes)))

@@ -1,7 +1,6 @@
 -- The loop of a run: what is left of the recording gives what is left of the lines, the board and the bytes. Assumes nothing.
 use Prim.Native.Nat.{ℕ, zero, suc, ◌+◌, ◌-◌, ◌*◌, ◌≤◌, ◌<◌}
 use mathlib.Core.Path.{◌≡◌, refl, sym, ap, ap₂, ◌∙◌, subst}
-use mathlib.Core.Logic.{◌⊎◌, inl, inr}
 use mathlib.Core.Bool.{Bool, true, false, cond}
 use mathlib.Core.List.{List, [], ◌∷◌, ◌++◌, append-nil, append_assoc}
 use native.Mathlib.Nat.{zero-add}
@@ -20,8 +19,9 @@ use Rattle.slots.proofs.Ageing.{aged-now}
 use Rattle.survey.specs.declared.Findings.{Findings}
 use Rattle.soundness.specs.Tested.{Stood}
 use Rattle.events.specs.declared.Event.{Event}
-use Rattle.events.specs.declared.Reading.{Reading}
-use Rattle.events.specs.declared.Reading.TheVariants.{End, Got, CutShort, Unknown}
+use Rattle.std.specs.Prelude.{Ok, Err, Some, None}
+use Rattle.events.specs.Records.{Reading}
+use Rattle.events.specs.declared.ReadError.TheVariants.{CutShort, Unknown}
 use Rattle.events.specs.Records.{kind_of, read_from}
 use Rattle.events.proofs.Calls.{taken-there}
 use Rattle.steps.specs.declared.Brief.{Brief}
@@ -29,13 +29,11 @@ use Rattle.steps.specs.declared.State.{State}
 use Rattle.steps.specs.declared.Change.{Change}
 use Rattle.steps.specs.declared.Change.TheVariants.{Nothing, Booked, Freed, Cleared}
 use Rattle.steps.specs.declared.Done.{Done}
-use Rattle.session.specs.declared.Whole.{Whole}
 use Rattle.session.specs.Recording.{most_events, Line, line_of, Outcome, outcome, Run, still, ran_from, line_numbers, room_for, ran, ran_buffer}
 use Rattle.steps.specs.Standing.{state_of, Keeps, Follows, as_booked, changed}
-use Rattle.session.specs.Standing.{Took}
 
 -- a whole record, and none
-pub ran-got : (m : ℕ) (b : State) (n : ℕ) (bytes : List ℕ) (v : Event) (size : ℕ) → read_from bytes ≡ Got v size
+pub ran-got : (m : ℕ) (b : State) (n : ℕ) (bytes : List ℕ) (v : Event) (size : ℕ) → read_from bytes ≡ Ok (Some (v, size))
     → let later : Run = ran_from m (outcome b v).state (suc n) (drop size bytes) in
     ran_from (suc m) b n bytes
     ≡ record { lines = line_of (suc n) v (outcome b v).answer ∷ later.lines; events = v ∷ later.events; state = later.state; taken = size + later.taken }
@@ -46,16 +44,16 @@ ran-zero : (b : State) (n : ℕ) (bytes : List ℕ) → ran_from zero b n bytes 
 unfolding ran_from
 ran-zero b n bytes = refl
 
-pub ran-none : (m : ℕ) (b : State) (n : ℕ) (bytes : List ℕ) → ((v : Event) (size : ℕ) → read_from bytes ≡ Got v size → ⊥) → ran_from m b n bytes ≡ still b
+pub ran-none : (m : ℕ) (b : State) (n : ℕ) (bytes : List ℕ) → ((v : Event) (size : ℕ) → read_from bytes ≡ Ok (Some (v, size)) → ⊥) → ran_from m b n bytes ≡ still b
 unfolding ran_from
 ran-none zero b n bytes f = refl
 ran-none (suc m) b n bytes f = go (read_from bytes) refl
   where
     go : (r : Reading) → read_from bytes ≡ r → ran_from (suc m) b n bytes ≡ still b
-    go End e = rw (e, ran_from)
-    go (Got v size) e = absurd (f v size e)
-    go (CutShort k) e = rw (e, ran_from)
-    go (Unknown k) e = rw (e, ran_from)
+    go (Ok None) e = rw (e, ran_from)
+    go (Ok (Some (v, size))) e = absurd (f v size e)
+    go (Err (CutShort k)) e = rw (e, ran_from)
+    go (Err (Unknown k)) e = rw (e, ran_from)
 
 pub words_append : (xs ys : List Line) → line_numbers (xs ++ ys) ≡ line_numbers xs ++ line_numbers ys
 unfolding line_numbers
@@ -85,7 +83,7 @@ unfolding changed
 changed-cleared tasks e q = rw e (ap (replicate 64) q)
 
 -- after n events
-pub record Running (b : State) (number most : ℕ) (bytes lent answers : List ℕ) (tasks : List Task) (live masks : List ℕ) (d : Brief) (turns at n : ℕ) : Type 0 where
+pub record Running (b : State) (number most : ℕ) (bytes lent answers : List ℕ) (tasks : List Task) (live masks : List ℕ) (d : Brief) (at count n : ℕ) : Type 0 where
   pub slots : List Task
   pub keeps : Keeps d slots live masks
   pub size : length tasks ≡ 64
@@ -95,16 +93,15 @@ pub record Running (b : State) (number most : ℕ) (bytes lent answers : List �
   pub state : (ran_from most b number bytes).state ≡ (ran_from (most - n) (state_of slots d) (number + n) (drop at bytes)).state
   pub taken : (ran_from most b number bytes).taken ≡ at + (ran_from (most - n) (state_of slots d) (number + n) (drop at bytes)).taken
   pub words : answers ≡ sets lent 0 (line_numbers done)
-  pub count : n ≡ length done
-  pub upto : n ≤ turns
-  pub bound : turns ≤ most
+  pub told : n ≡ length done
+  pub counted : count ≡ n
+  pub upto : n ≤ most
   pub inside : at ≤ length bytes
-  pub goes_on : (turns ≡ most) ⊎ ((turns ≡ n) × (ran_from (most - n) (state_of slots d) (number + n) (drop at bytes) ≡ still (state_of slots d)))
 
 -- AT THE BEGIN: the board that was handed over, tested once
 pub run-begin : (tasks : List Task) (clock : ℕ) (D : Device) (number most : ℕ) (bytes lent live masks : List ℕ) (v : Findings) → Stood D clock tasks live masks v
     → let d : Brief = record { clock = clock; device = D; count = v.count; used = v.used; sound = v.sound } in
-    Running (state_of tasks d) number most bytes lent lent tasks live masks d most 0 0
+    Running (state_of tasks d) number most bytes lent lent tasks live masks d 0 0 0
 unfolding line_numbers
 run-begin tasks clock D number most bytes lent live masks v o = record {
   slots = tasks;
@@ -124,11 +121,10 @@ run-begin tasks clock D number most bytes lent live masks v o = record {
   state = ap (λ x. (ran_from x (begun) number bytes).state) first ∙ ap (λ x. (ran_from (most - 0) (begun) x bytes).state) start;
   taken = ap (λ x. (ran_from x (begun) number bytes).taken) first ∙ ap (λ x. (ran_from (most - 0) (begun) x bytes).taken) start ∙ sym (zero-add _);
   words = refl;
-  count = refl;
+  told = refl;
+  counted = refl;
   upto = omega arith;
-  bound = omega arith;
   inside = omega arith;
-  goes_on = inl refl;
 }
   where
     begun : State
@@ -144,77 +140,51 @@ run-begin tasks clock D number most bytes lent live masks v o = record {
     as-booked true e = sym (aged-now D clock tasks (sound-out D clock tasks (subst T e tt)))
     as-booked false e = refl
 
-module _ {b : State} {number most : ℕ} {bytes lent answers : List ℕ} {tasks : List Task} {live masks : List ℕ} {d : Brief} {turns at n : ℕ}
-    (o : Running b number most bytes lent answers tasks live masks d turns at n) where
-  abbrev now : State
+module _ {b : State} {number most : ℕ} {bytes lent answers : List ℕ} {tasks : List Task} {live masks : List ℕ} {d : Brief} {at count n : ℕ}
+    (o : Running b number most bytes lent answers tasks live masks d at count n) where
+  abbrev pub now : State
   now = state_of o.slots d
 
   -- the run of what is left
-  abbrev rest : Run
+  abbrev pub rest : Run
   rest = ran_from (most - n) now (number + n) (drop at bytes)
 
   pub same-room : length answers ≡ length lent
   same-room = ap length o.words ∙ length-sets lent 0 (line_numbers o.done)
 
-  -- NO WHOLE RECORD IS LEFT
-  pub run-stop : {w : Whole} → Took (drop at bytes) w → w.size ≡ 0 → Running b number most bytes lent answers tasks live masks d n at n
-  run-stop {w} t e = record {
-    slots = o.slots;
-    keeps = o.keeps;
-    size = o.size;
-    records = o.records;
-    done = o.done;
-    lines = o.lines;
-    state = o.state;
-    taken = o.taken;
-    words = o.words;
-    count = o.count;
-    upto = omega arith;
-    bound = omega (arith, o.upto, o.bound);
-    inside = o.inside;
-    goes_on = inr (refl, ran-none (most - n) now (number + n) (drop at bytes) (t.none e));
-  }
-
   -- AN EVENT MORE
-  module _ (h : n < turns) {w : Whole} (t : Took (drop at bytes) w) (p : 0 < w.size) {e : Done} {live' masks' : List ℕ}
-      (q : (ks : List Task) → Keeps d ks live masks → Follows d ks (outcome (state_of ks d) w.event) e live' masks')
-      {after : List ℕ} {kind : ℕ} (k : kind ≡ kind_of w.event)
+  module _ (h : n < most) {v : Event} {taken : ℕ} (t : read_from (drop at bytes) ≡ Ok (Some (v, taken))) {e : Done} {live' masks' : List ℕ}
+      (q : (ks : List Task) → Keeps d ks live masks → Follows d ks (outcome (state_of ks d) v) e live' masks')
+      {after : List ℕ} {kind : ℕ} (k : kind ≡ kind_of v)
       (a : after ≡ sets answers (n * 6) ((number + n + 1) ∷ kind ∷ e.number ∷ e.column ∷ e.start ∷ e.finish ∷ []))
       {next : List Task} (c : next ≡ changed e.change tasks) (z : length next ≡ 64) where
     abbrev out : Outcome
-    out = outcome now w.event
+    out = outcome now v
 
     abbrev line : Line
-    line = line_of (suc (number + n)) w.event out.answer
+    line = line_of (suc (number + n)) v out.answer
 
     abbrev later : Run
-    later = ran_from (most - (n + 1)) (state_of out.state.board.tasks e.brief) (number + (n + 1)) (drop (at + w.size) bytes)
+    later = ran_from (most - (n + 1)) (state_of out.state.board.tasks e.brief) (number + (n + 1)) (drop (at + taken) bytes)
 
     g : Follows d o.slots out e live' masks'
     g = q o.slots o.keeps
 
-    full : turns ≡ most
-    full = pick o.goes_on
-      where
-        pick : (turns ≡ most) ⊎ ((turns ≡ n) × (rest ≡ still now)) → turns ≡ most
-        pick (inl x) = x
-        pick (inr x) = absurd (omega (arith, x.0))
-
     -- one record off what is left
-    one : rest ≡ record { lines = line ∷ later.lines; events = w.event ∷ later.events; state = later.state; taken = w.size + later.taken }
+    one : rest ≡ record { lines = line ∷ later.lines; events = v ∷ later.events; state = later.state; taken = taken + later.taken }
     one =
-        let m : most - n ≡ suc (most - (n + 1)) = omega (arith, full) in
+        let m : most - n ≡ suc (most - (n + 1)) = omega (arith, h) in
         let c1 : suc (number + n) ≡ number + (n + 1) = omega arith in
-        ap (λ x. ran_from x now (number + n) (drop at bytes)) m ∙ ran-got (most - (n + 1)) now (number + n) (drop at bytes) w.event w.size (t.got p)
-        ∙ ap (λ (x : Run). record { lines = line ∷ x.lines; events = w.event ∷ x.events; state = x.state; taken = w.size + x.taken })
-        (ap (λ x. ran_from (most - (n + 1)) out.state x (drop w.size (drop at bytes))) c1
-        ∙ ap (λ x. ran_from (most - (n + 1)) out.state (number + (n + 1)) x) (drop-drop w.size at bytes)
-        ∙ ap (λ x. ran_from (most - (n + 1)) x (number + (n + 1)) (drop (at + w.size) bytes)) there)
+        ap (λ x. ran_from x now (number + n) (drop at bytes)) m ∙ ran-got (most - (n + 1)) now (number + n) (drop at bytes) v taken t
+        ∙ ap (λ (x : Run). record { lines = line ∷ x.lines; events = v ∷ x.events; state = x.state; taken = taken + x.taken })
+        (ap (λ x. ran_from (most - (n + 1)) out.state x (drop taken (drop at bytes))) c1
+        ∙ ap (λ x. ran_from (most - (n + 1)) out.state (number + (n + 1)) x) (drop-drop taken at bytes)
+        ∙ ap (λ x. ran_from (most - (n + 1)) x (number + (n + 1)) (drop (at + taken) bytes)) there)
       where
         there : out.state ≡ state_of out.state.board.tasks e.brief
         there = λ i. record { board = record { tasks = out.state.board.tasks; now = sym g.clock i; device = sym g.device i } }
 
-    pub run_more : Running b number most bytes lent after next live' masks' e.brief turns (at + w.size) (n + 1)
+    pub run_more : Running b number most bytes lent after next live' masks' e.brief (at + taken) (n + 1) (n + 1)
     unfolding line_numbers line_of
     run_more = record {
       slots = out.state.board.tasks;
@@ -224,54 +194,53 @@ module _ {b : State} {number most : ℕ} {bytes lent answers : List ℕ} {tasks 
       done = o.done ++ (line ∷ []);
       lines = o.lines ∙ ap (λ (x : Run). o.done ++ x.lines) one ∙ sym (append_assoc o.done (line ∷ []) later.lines);
       state = o.state ∙ ap (λ (x : Run). x.state) one;
-      taken = o.taken ∙ ap (λ (x : Run). at + x.taken) one ∙ (let y : at + (w.size + later.taken) ≡ at + w.size + later.taken = omega arith in y);
+      taken = o.taken ∙ ap (λ (x : Run). at + x.taken) one ∙ (let y : at + (taken + later.taken) ≡ at + taken + later.taken = omega arith in y);
       words =
-          let behind : n * 6 ≡ 0 + length (line_numbers o.done) = omega (arith, words-length o.done, o.count) in
+          let behind : n * 6 ≡ 0 + length (line_numbers o.done) = omega (arith, words-length o.done, o.told) in
           let event : number + n + 1 ≡ suc (number + n) = omega arith in
           let six : List ℕ = (number + n + 1) ∷ kind ∷ e.number ∷ e.column ∷ e.start ∷ e.finish ∷ [] in
           let told : six ≡ line_numbers (line ∷ []) = λ i. event i ∷ k i ∷ g.number i ∷ g.column i ∷ g.start i ∷ g.finish i ∷ [] in
           a ∙ ap (λ x. sets x (n * 6) six) o.words
           ∙ ap₂ (λ x y. sets (sets lent 0 (line_numbers o.done)) x y) behind told
           ∙ sets-append lent 0 (line_numbers o.done) (line_numbers (line ∷ [])) ∙ ap (sets lent 0) (sym (words_append o.done (line ∷ [])));
-      count = omega (arith, length-append o.done (line ∷ []), o.count);
-      upto = omega arith;
-      bound = o.bound;
-      inside = let y = taken-there (drop at bytes) w.event w.size (t.got p) in omega (arith, length-drop at bytes, o.inside);
-      goes_on = inl full;
+      told = omega (arith, length-append o.done (line ∷ []), o.told);
+      counted = refl;
+      upto = omega (arith, h);
+      inside = let y = taken-there (drop at bytes) v taken t in omega (arith, length-drop at bytes, o.inside);
     }
 
+  -- nothing more: as many events as may be, or no whole record
+  pub full : most ≤ n → rest ≡ still now
+  full h = stopped (most - n) (omega arith)
+    where
+      stopped : (x : ℕ) → x ≡ 0 → ran_from x now (number + n) (drop at bytes) ≡ still now
+      stopped zero y = ran-zero _ _ _
+      stopped (suc x) y = absurd (omega arith)
+
+  pub no-more : ((v : Event) (size : ℕ) → read_from (drop at bytes) ≡ Ok (Some (v, size)) → ⊥) → rest ≡ still now
+  no-more = ran-none (most - n) now (number + n) (drop at bytes)
+
   -- AFTER THE LAST
-  module _ (h : turns ≤ n) (m : most ≡ room_for (length lent) number) {after : List Task} (c : after ≡ as_booked d tasks) where
-    ended : rest ≡ still now
-    ended = pick o.goes_on
-      where
-        stopped : (x : ℕ) → x ≡ 0 → ran_from x now (number + n) (drop at bytes) ≡ still now
-        stopped zero y = ran-zero _ _ _
-        stopped (suc x) y = absurd (omega arith)
-
-        pick : (turns ≡ most) ⊎ ((turns ≡ n) × (rest ≡ still now)) → rest ≡ still now
-        pick (inl x) = stopped (most - n) (omega arith)
-        pick (inr x) = x.1
-
+  module _ (ended : rest ≡ still now) (m : most ≡ room_for (length lent) number) {after : List Task} (c : after ≡ as_booked d tasks) where
     every : (ran_from most b number bytes).lines ≡ o.done
     every = o.lines ∙ ap (λ (x : Run). o.done ++ x.lines) ended ∙ append-nil o.done
 
-    pub run_end : (record { count = n; taken = at; state = state_of after d } ≡ ran b number bytes (length lent))
-        × ((answers ≡ ran_buffer b number bytes lent) × ((n * 6 ≤ length lent) × (at ≤ length bytes) × (number ≤ most_events → number + n ≤ most_events)))
+    pub run_end : (record { count = count; taken = at; state = state_of after d } ≡ ran b number bytes (length lent))
+        × ((answers ≡ ran_buffer b number bytes lent) × ((count * 6 ≤ length lent) × (at ≤ length bytes) × (number ≤ most_events → number + count ≤ most_events)))
     unfolding ran ran_buffer
     run_end = (
-      rw (← m) (λ i. record { count = counted i; taken = bytes-taken i; state = follows i }),
+      rw (← m) (λ i. record { count = all-counted i; taken = bytes-taken i; state = follows i }),
       (
         rw (← m) (o.words ∙ over ∙ ap (λ x. over_front (line_numbers x) lent) (sym every)),
-        (omega (arith, o.upto, o.bound), o.inside, λ x. omega (arith, o.upto, o.bound)),
+        (omega (arith, o.upto, o.counted), o.inside, λ x. omega (arith, o.upto, o.counted)),
       ),
     )
       where
         over : sets lent 0 (line_numbers o.done) ≡ over_front (line_numbers o.done) lent
-        over = sets-eq (line_numbers o.done) lent 0 (omega (arith, words-length o.done, o.count, o.upto, o.bound)) ∙ rw zero-add
+        over = sets-eq (line_numbers o.done) lent 0 (omega (arith, words-length o.done, o.told, o.upto)) ∙ rw zero-add
 
-        counted : n ≡ length (ran_from most b number bytes).lines
-        counted = o.count ∙ sym (ap length every)
+        all-counted : count ≡ length (ran_from most b number bytes).lines
+        all-counted = o.counted ∙ o.told ∙ sym (ap length every)
 
         bytes-taken : at ≡ (ran_from most b number bytes).taken
         bytes-taken = (let y : at ≡ at + 0 = omega arith in y) ∙ sym (o.taken ∙ ap (λ (x : Run). at + x.taken) ended)

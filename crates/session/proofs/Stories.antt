@@ -4,11 +4,11 @@ use mathlib.Core.Path.{◌≡◌, refl, sym, ap, ◌∙◌}
 use mathlib.Core.List.{List, [], ◌∷◌, ◌++◌}
 use native.Mathlib.Omega.{arith}
 use lib.ListN.{length, drop}
-use Rattle.board.specs.Answers.{bare}
 use Rattle.steps.specs.declared.State.{State}
-use Rattle.events.specs.declared.Reading.{Reading}
-use Rattle.events.specs.declared.Reading.TheVariants.{End, Got, CutShort, Unknown}
-use Rattle.events.specs.Records.{kind_of, read_from}
+use Rattle.std.specs.Prelude.{Ok, Err, Some, None}
+use Rattle.events.specs.Records.{Reading}
+use Rattle.events.specs.declared.ReadError.TheVariants.{CutShort, Unknown}
+use Rattle.events.specs.Records.{read_from}
 use Rattle.session.specs.declared.Ending.{Ending}
 use Rattle.session.specs.declared.Ending.TheVariants.{NotYet, AtEnd, In15, In16, AtLast, PastLast}
 use Rattle.session.specs.Recording.{Line, line_of, stop_line, outcome, Story, ends_in, story_from, Run, still, ran_from}
@@ -51,10 +51,10 @@ story-run (suc left) s n bytes = go (λ t m ws. story-run left t m ws) (read_fro
     go : ((t : State) (m : ℕ) (ws : List ℕ) → story_from left t m ws ≡ ends_after m (ran_from left t m ws) (story_from left t m ws).end)
         → (r : Reading) → read_from bytes ≡ r
         → story_from (suc left) s n bytes ≡ ends_after n (ran_from (suc left) s n bytes) (story_from (suc left) s n bytes).end
-    go next End e = ended AtEnd (rw (e, story_from)) (rw (e, ran_from))
-    go next (CutShort k) e = ended (In15 k) (rw (e, story_from)) (rw (e, ran_from))
-    go next (Unknown k) e = ended (In16 k) (rw (e, story_from)) (rw (e, ran_from))
-    go next (Got v size) e =
+    go next (Ok None) e = ended AtEnd (rw (e, story_from)) (rw (e, ran_from))
+    go next (Err (CutShort k)) e = ended (In15 k) (rw (e, story_from)) (rw (e, ran_from))
+    go next (Err (Unknown k)) e = ended (In16 k) (rw (e, story_from)) (rw (e, ran_from))
+    go next (Ok (Some (v, size))) e =
         let t : Story = story_from left (outcome s v).state (suc n) (drop size bytes) in
         let r : Run = ran_from left (outcome s v).state (suc n) (drop size bytes) in
         let line : Line = line_of (suc n) v (outcome s v).answer in

@@ -1,10 +1,9 @@
 -- The run of a recording: how a list of bytes goes, event by event, and what a run over some of them does. Assumes nothing.
-use Rattle.std.specs.Prelude.{ℕ, zero, suc, ◌+◌, ◌-◌, ◌/◌, min, List, [], ◌∷◌, length, drop}
-use Rattle.std.proofs.Math.Option.{Option, none}
+use Rattle.std.specs.Prelude.{ℕ, zero, suc, ◌+◌, ◌-◌, ◌/◌, min, List, [], ◌∷◌, length, drop, Option, Some, None, Ok, Err}
 use Rattle.lists.specs.Lists.{over_front}
 use Rattle.board.specs.Answers.{Told}
 use Rattle.events.specs.declared.Event.{Event}
-use Rattle.events.specs.declared.Reading.TheVariants.{End, Got, CutShort, Unknown}
+use Rattle.events.specs.declared.ReadError.TheVariants.{CutShort, Unknown}
 use Rattle.events.specs.Records.{kind_of, id_of, read_from}
 use Rattle.session.specs.declared.Ending.{Ending}
 use Rattle.session.specs.declared.Ending.TheVariants.{AtEnd, In15, In16, AtLast, PastLast}
@@ -30,7 +29,7 @@ line_of n v a =
 
 -- the line of a 15 or 16, "kind as the byte read, zeros"
 unfoldable pub stop_line : ℕ → ℕ → ℕ → Line
-stop_line n kind number = record { event = n; kind = kind; answer = number; column = 0; start = 0; finish = 0; id = none }
+stop_line n kind number = record { event = n; kind = kind; answer = number; column = 0; start = 0; finish = 0; id = None }
 
 -- how a recording goes: its lines, its events, the state that follows the last of them, and how it ends
 pub record Story : Type 0 where
@@ -50,8 +49,8 @@ story_from zero s n [] = ends_in [] s AtLast
 story_from zero s n (b ∷ bytes) = ends_in [] s PastLast
 story_from (suc left) s n bytes =
     elim (read_from bytes) [
-      | End ↦ ends_in [] s AtEnd
-      | Got v size ↦
+      | Ok None ↦ ends_in [] s AtEnd
+      | Ok (Some (v, size)) ↦
           let next = story_from left (outcome s v).state (suc n) (drop size bytes) in
           record {
             lines = line_of (suc n) v (outcome s v).answer ∷ next.lines;
@@ -59,8 +58,8 @@ story_from (suc left) s n bytes =
             state = next.state;
             end = next.end;
           }
-      | CutShort k ↦ ends_in (stop_line (suc n) k 15 ∷ []) s (In15 k)
-      | Unknown k ↦ ends_in (stop_line (suc n) k 16 ∷ []) s (In16 k)
+      | Err (CutShort k) ↦ ends_in (stop_line (suc n) k 15 ∷ []) s (In15 k)
+      | Err (Unknown k) ↦ ends_in (stop_line (suc n) k 16 ∷ []) s (In16 k)
     ]
 
 -- "it also stops, without a line, after 1,000,000,000 events"
@@ -87,8 +86,8 @@ unfoldable pub ran_from : ℕ → State → ℕ → List ℕ → Run
 ran_from zero s n bytes = still s
 ran_from (suc room) s n bytes =
     elim (read_from bytes) [
-      | End ↦ still s
-      | Got v size ↦
+      | Ok None ↦ still s
+      | Ok (Some (v, size)) ↦
           let next = ran_from room (outcome s v).state (suc n) (drop size bytes) in
           record {
             lines = line_of (suc n) v (outcome s v).answer ∷ next.lines;
@@ -96,8 +95,8 @@ ran_from (suc room) s n bytes =
             state = next.state;
             taken = size + next.taken;
           }
-      | CutShort k ↦ still s
-      | Unknown k ↦ still s
+      | Err (CutShort k) ↦ still s
+      | Err (Unknown k) ↦ still s
     ]
 
 -- a line in six words

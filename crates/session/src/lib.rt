@@ -2,15 +2,13 @@
 // live tasks stand in one table, and the records are brought up to the clock at the end.
 #![tactic(auto)]
 
-ghost use Rattle.std.specs.Prelude.{◌≡◌, [], ◌∷◌, ◌+◌, ◌-◌, ◌*◌, ◌≤◌, ◌<◌, length, drop};
+ghost use Rattle.std.specs.Prelude.{◌≡◌, [], ◌∷◌, ◌+◌, ◌-◌, ◌*◌, ◌≤◌, ◌<◌, length};
 ghost use Rattle.std.proofs.lemmas.List.Edits.{sets};
 ghost use Rattle.tasks.specs.declared.Task.{Task};
 ghost use Rattle.session.specs.Recording.{most_events, room_for, ran, ran_buffer};
 ghost use Rattle.steps.specs.Standing.{as_booked};
-ghost use Rattle.session.specs.Standing.{Took};
 
 use board::Board;
-use events::{Event, Reading};
 use steps::{Brief, Change, State};
 use tasks::Task;
 
@@ -51,12 +49,14 @@ pub fn put_line(
     requires { at + 6 ≤ length answers.old }
     ensures { answers.new ≡ sets answers.old at (event ∷ kind ∷ number ∷ column ∷ start ∷ finish ∷ []) }
 {
-    answers[at] = event;
-    answers[at + 1] = kind as u32;
-    answers[at + 2] = number as u32;
-    answers[at + 3] = column as u32;
-    answers[at + 4] = start;
-    answers[at + 5] = finish;
+    answers[at..at + 6].copy_from_slice(&[
+        event,
+        u32::from(kind),
+        u32::from(number),
+        u32::from(column),
+        start,
+        finish,
+    ]);
 }
 
 // How many events more: six words a line, and 1,000,000,000 events in all.
@@ -66,41 +66,7 @@ pub fn room(words: usize, number: u32) -> usize
     if MOST_EVENTS < number {
         return 0;
     }
-    let left = (MOST_EVENTS - number) as usize;
-    let fit = words / 6;
-    if fit < left { fit } else { left }
-}
-
-// The next whole record: its event and the bytes it takes, 0 where there is none.
-#[derive(Clone, Copy)]
-struct Whole {
-    size: usize,
-    event: Event,
-}
-
-fn next(bytes: &[u8], at: usize) -> Whole
-    ensures { Took (drop at bytes.now) result }
-{
-    let none = Event::Clock { instant: 0 };
-    let reading = events::read_at(bytes, at);
-    match reading {
-        Reading::End => Whole {
-            size: 0,
-            event: none,
-        },
-        Reading::Got(event, size) => Whole {
-            size: size,
-            event: event,
-        },
-        Reading::CutShort(_) => Whole {
-            size: 0,
-            event: none,
-        },
-        Reading::Unknown(_) => Whole {
-            size: 0,
-            event: none,
-        },
-    }
+    (words / 6).min((MOST_EVENTS - number) as usize)
 }
 
 // The records brought up to the clock.
@@ -134,57 +100,43 @@ pub fn run(state: State, number: u32, bytes: &[u8], answers: &mut [u32]) -> Ran
         sound: v.sound,
     };
     let most = room(answers.len(), number);
-    let mut turns = most;
     let mut at: usize = 0;
-    let mut n: usize = 0;
-    while n < turns {
-        let e = next(bytes, at);
-        let size = e.size;
-        if size == 0 {
-            turns = n;
-        } else {
-            let event = e.event;
-            let r = steps::answered(&mut live, &mut masks, d, event);
-            put_line(
-                answers,
-                n * 6,
-                number + n as u32 + 1,
-                events::kind_of(event),
-                r.number,
-                r.column,
-                r.start,
-                r.finish,
-            );
-            d = r.brief;
-            at += size;
-            n += 1;
-            let change = r.change;
-            match change {
-                Change::Nothing => {}
-                Change::Booked { slot, task } => {
-                    tasks[slot] = task;
-                }
-                Change::Freed { slot } => {
-                    tasks[slot] = tasks::free_slot();
-                }
-                Change::Cleared => {
-                    let free = tasks::free_slot();
-                    tasks = [free; 64];
-                }
-            }
+    let mut count: usize = 0;
+    for n in 0..most {
+        let Ok(Some((event, size))) = events::read_at(bytes, at) else {
+            break;
+        };
+        let r = steps::answered(&mut live, &mut masks, d, event);
+        put_line(
+            answers,
+            n * 6,
+            number + n as u32 + 1,
+            events::kind_of(event),
+            r.number,
+            r.column,
+            r.start,
+            r.finish,
+        );
+        d = r.brief;
+        at += size;
+        count = n + 1;
+        match r.change {
+            Change::Nothing => {}
+            Change::Booked { slot, task } => tasks[slot] = task,
+            Change::Freed { slot } => tasks[slot] = tasks::free_slot(),
+            Change::Cleared => tasks = [tasks::free_slot(); 64],
         }
     }
-    let after = brought(tasks, d);
-    let then = d.device;
-    Ran {
-        count: n,
-        taken: at,
-        state: State {
-            board: Board {
-                tasks: after,
-                now: d.clock,
-                device: then,
-            },
+    let state = State {
+        board: Board {
+            tasks: brought(tasks, d),
+            now: d.clock,
+            device: d.device,
         },
+    };
+    Ran {
+        count,
+        taken: at,
+        state,
     }
 }

@@ -236,9 +236,7 @@ pub fn answered<'a>(live: &'a mut Live, masks: &'a mut Masks, d: Brief, event: E
 {
     match event {
         Event::NewBoard { columns, rows } => new_board(live, masks, d, columns, rows, 1),
-        Event::Submit { planner, ask } => {
-            submit(live, masks, d, planner, events::submission_of(ask))
-        }
+        Event::Submit { planner, ask } => submit(live, masks, d, planner, ask.into()),
         Event::Clock { instant } => clock(live, masks, d, instant),
         Event::Withdraw { id } => withdraw(live, masks, d, id),
         Event::GridBoard {

@@ -1,33 +1,30 @@
 -- Lines in words, row by row: what the loop of `worded::put_rows` has put, and what is left. Assumes nothing.
-use Prim.Native.Nat.{ℕ, zero, suc, ◌+◌, ◌-◌, ◌*◌, ◌≤◌, ◌<◌}
+use Prim.Native.Nat.{ℕ, suc, ◌+◌, ◌-◌, ◌*◌, ◌≤◌, ◌<◌}
 use mathlib.Core.Path.{◌≡◌, refl, sym, ap, ap₂, ◌∙◌, subst}
-use mathlib.Core.Bool.{true, false, cond}
 use mathlib.Core.List.{List, [], ◌∷◌, ◌++◌, append-nil, append_assoc}
-use mathlib.Core.Option.{Option, none, some}
 use native.Mathlib.Omega.{arith}
 use lib.ListN.{length, get_or, take, drop, length-drop}
 use lib.Seq.{drop-drop, get_or-drop}
-use Rattle.text.specs.Text.{decimal, line_text}
+use Rattle.text.specs.Text.{decimal}
 use Rattle.text.specs.Digits.{Put, spaced}
 use Rattle.text.proofs.Spelling.{put_both, line-end, line-more}
 use Rattle.text.proofs.Rows.{line-rest}
 use Rattle.answer_words.specs.AnswerWords.{answer_words}
-use Rattle.events.specs.declared.Reading.{Reading}
-use Rattle.events.specs.declared.Reading.TheVariants.{End, Got, CutShort, Unknown}
-use Rattle.events.specs.Records.{read_from}
+use Rattle.std.specs.Prelude.{Option, Some, None, Ok, Err}
+use Rattle.events.specs.Records.{Reading, read_from}
 use Rattle.events.proofs.Calls.{taken-there}
 use Rattle.worded.specs.declared.Name.{Name}
 use Rattle.worded.specs.Worded.{id_text}
-use Rattle.worded.specs.Rows.{id_in, worded_row, id_read, size_read, worded_rows}
+use Rattle.worded.specs.Rows.{worded_row, id_read, size_read, worded_rows}
 
 -- an id that is named, and none
-pub named : (n : Name) → n.named ≡ true → {l m : List ℕ} {at p : ℕ} → Put l at (decimal n.id ++ (32 ∷ [])) m p → Put l at (id_text (id_in n) ++ (32 ∷ [])) m p
-unfolding id_in id_text
-named n e p = rw e p
+pub named : {id : Option ℕ} {n : ℕ} → id ≡ Some n → {l m : List ℕ} {at p : ℕ} → Put l at (decimal n ++ (32 ∷ [])) m p → Put l at (id_text id ++ (32 ∷ [])) m p
+unfolding id_text
+named e p = rw e p
 
-pub not_named : (n : Name) → n.named ≡ false → {l m : List ℕ} {at p : ℕ} → Put l at (45 ∷ 32 ∷ []) m p → Put l at (id_text (id_in n) ++ (32 ∷ [])) m p
-unfolding id_in id_text
-not_named n e p = rw e p
+pub not_named : {id : Option ℕ} → id ≡ None → {l m : List ℕ} {at p : ℕ} → Put l at (45 ∷ 32 ∷ []) m p → Put l at (id_text id ++ (32 ∷ [])) m p
+unfolding id_text
+not_named e p = rw e p
 
 -- a line put part by part
 pub row_put : {l m k i j e : List ℕ} {at p q r s t : ℕ} (row : List ℕ) (answer : ℕ) (id : Option ℕ) → Put l at (spaced row) m p → Put m p (id_text id ++ (32 ∷ [])) k q
@@ -44,10 +41,9 @@ size-there : (l : List ℕ) → size_read (read_from l) ≤ length l
 size-there l = go (read_from l) refl
   where
     go : (r : Reading) → read_from l ≡ r → size_read r ≤ length l
-    go End e = unfold size_read in omega arith
-    go (Got v n) e = let h = (taken-there l v n e).1 in unfold size_read in h
-    go (CutShort k) e = unfold size_read in omega arith
-    go (Unknown k) e = unfold size_read in omega arith
+    go (Ok None) e = unfold size_read in omega arith
+    go (Ok (Some (v, n))) e = let h = (taken-there l v n e).1 in unfold size_read in h
+    go (Err d) e = unfold size_read in omega arith
 
 -- after i lines
 pub record Rowed (count : ℕ) (numbers bytes lent out : List ℕ) (place at i : ℕ) : Type 0 where
@@ -80,8 +76,8 @@ unfolding worded_rows
 zero-rows numbers bytes = refl
 
 module _ {count : ℕ} {numbers bytes lent out : List ℕ} {place at i : ℕ} (o : Rowed count numbers bytes lent out place at i) where
-  pub rows_more : i < count → (name : Name) → id_in name ≡ id_read (read_from (drop at bytes)) → name.size ≡ size_read (read_from (drop at bytes))
-      → {after : List ℕ} {past : ℕ} → Put out place (worded_row (take 6 (drop (i * 6) numbers)) (get_or numbers (i * 6 + 2) 0) (id_in name)) after past
+  pub rows_more : i < count → (name : Name) → name.id ≡ id_read (read_from (drop at bytes)) → name.size ≡ size_read (read_from (drop at bytes))
+      → {after : List ℕ} {past : ℕ} → Put out place (worded_row (take 6 (drop (i * 6) numbers)) (get_or numbers (i * 6 + 2) 0) name.id) after past
       → past ≤ place + 134 → length after ≡ length out → Rowed count numbers bytes lent after past (at + name.size) (i + 1)
   rows_more h name n z {after} {past} p b s = record {
     done = o.done ++ row;
@@ -95,7 +91,7 @@ module _ {count : ℕ} {numbers bytes lent out : List ℕ} {place at i : ℕ} (o
   }
     where
       row : List ℕ
-      row = worded_row (take 6 (drop (i * 6) numbers)) (get_or numbers (i * 6 + 2) 0) (id_in name)
+      row = worded_row (take 6 (drop (i * 6) numbers)) (get_or numbers (i * 6 + 2) 0) name.id
 
       more : (i + 1) * 134 ≡ i * 134 + 134
       more = omega arith

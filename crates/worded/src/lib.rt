@@ -6,91 +6,58 @@ ghost use Rattle.lists.specs.Lists.{over_front};
 ghost use Rattle.text.specs.Digits.{Put};
 ghost use Rattle.events.specs.Records.{id_of, read_from};
 ghost use Rattle.worded.specs.Worded.{id_text};
-ghost use Rattle.worded.specs.Rows.{id_in, worded_row, id_read, size_read, worded_rows};
+ghost use Rattle.worded.specs.Rows.{worded_row, id_read, size_read, worded_rows};
 
-use events::{Ask, Event, Reading};
+use events::{Ask, Event};
 
-// The id that an event names, if it names one, and how many bytes the event takes.
+// The id that the next event names, if it names one, and how many bytes the event takes.
 #[derive(Clone, Copy)]
 struct Name {
-    named: bool,
-    id: u32,
+    id: Option<u32>,
     size: usize,
 }
 
-fn name_of(event: Event, size: usize) -> Name
-    ensures { (id_in result ≡ id_of event) × (result.size ≡ size) }
+fn name_of(event: Event) -> Option<u32>
+    ensures { result ≡ id_of event }
 {
     match event {
-        Event::NewBoard {
-            columns: _,
-            rows: _,
-        } => Name {
-            named: false,
-            id: 0,
-            size: size,
-        },
-        Event::Submit { planner: _, ask } => Name {
-            named: true,
-            id: ask.id,
-            size: size,
-        },
-        Event::Clock { instant: _ } => Name {
-            named: false,
-            id: 0,
-            size: size,
-        },
-        Event::Withdraw { id } => Name {
-            named: true,
-            id: id,
-            size: size,
-        },
-        Event::GridBoard {
-            columns: _,
-            rows: _,
-            grid: _,
-        } => Name {
-            named: false,
-            id: 0,
-            size: size,
-        },
+        Event::NewBoard { .. } => None,
+        Event::Submit { ask, .. } => Some(ask.id),
+        Event::Clock { .. } => None,
+        Event::Withdraw { id } => Some(id),
+        Event::GridBoard { .. } => None,
     }
 }
 
 // The next record's; none where there is no whole one.
 fn next_name(bytes: &[u8], at: usize) -> Name
-    ensures { (id_in result ≡ id_read (read_from (drop at bytes.now))) × (result.size ≡ size_read (read_from (drop at bytes.now))) }
+    ensures { (result.id ≡ id_read (read_from (drop at bytes.now))) × (result.size ≡ size_read (read_from (drop at bytes.now))) }
 {
-    let none = Name {
-        named: false,
-        id: 0,
-        size: 0,
-    };
-    let reading = events::read_at(bytes, at);
-    match reading {
-        Reading::End => none,
-        Reading::Got(event, size) => name_of(event, size),
-        Reading::CutShort(_) => none,
-        Reading::Unknown(_) => none,
+    match events::read_at(bytes, at) {
+        Ok(Some((event, size))) => Name {
+            id: name_of(event),
+            size,
+        },
+        _ => Name { id: None, size: 0 },
     }
 }
 
 // An id and the space behind it; the place after both.
 fn put_name(out: &mut [u8], at: usize, name: Name) -> usize
     requires { at + 11 ≤ length out.old }
-    ensures put { Put out.old at (id_text (id_in name) ++ (32 ∷ [])) out.new result }
+    ensures put { Put out.old at (id_text name.id ++ (32 ∷ [])) out.new result }
     ensures upper_bound { result ≤ at + 11 }
 {
-    if name.named {
-        return text::put_ended(out, at, name.id, b' ');
+    match name.id {
+        Some(id) => text::put_ended(out, at, id, b' '),
+        None => text::put_bytes(out, at, b"- "),
     }
-    text::put_bytes(out, at, b"- ")
 }
 
 // A line of six numbers with an id and the answer in words; the place after it.
 fn put_row(out: &mut [u8], at: usize, numbers: &[u32], from: usize, name: Name) -> usize
     requires { (at + 134 ≤ length out.old) × (from + 6 ≤ length numbers.now) }
-    ensures put { Put out.old at (worded_row (take 6 (drop from numbers.now)) (get_or numbers.now (from + 2) 0) (id_in name)) out.new result }
+    ensures put { Put out.old at (worded_row (take 6 (drop from numbers.now)) (get_or numbers.now (from + 2) 0) name.id) out.new result }
     ensures upper_bound { result ≤ at + 134 }
 {
     let answer = numbers[from + 2];

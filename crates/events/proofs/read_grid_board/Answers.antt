@@ -1,8 +1,8 @@
 -- `events::read_grid_board` meets its contract: the three fields where the body is whole, else 15. Assumes nothing.
 use mathlib.Core.Path.{sym}
 use native.Mathlib.Omega.{arith}
+use Rattle.fields.proofs.Fields.{field-1, field-2}
 use Rattle.events.proofs.Found.{whole, short}
-use Rattle.fields.proofs.Fields.{field-1}
 use Rattle.events.proofs.read_grid_board.Goals as goal
 
 pub returns-then-body-lt5 : goal.returns-then-body-lt5
@@ -14,6 +14,6 @@ returns c =
     rw (
       whole 5 5 body _ (omega arith),
       field-1 4 body (omega arith),
-      c.field_2-columns.ensures,
-      c.field_2-rows.ensures,
+      field-2 0 body c.from_le_bytes-columns.ensures c.bytes_at.ensures,
+      field-2 2 body c.from_le_bytes-rows.ensures c.bytes_at-2.ensures,
     )

@@ -1,8 +1,8 @@
 -- `events::read_submit` meets its contract: the six fields where the body is whole, else 15. Assumes nothing.
-use native.Mathlib.Omega.{arith}
 use mathlib.Core.Path.{sym}
+use native.Mathlib.Omega.{arith}
+use Rattle.fields.proofs.Fields.{field-1, field-2, field-4}
 use Rattle.events.proofs.Found.{whole, short}
-use Rattle.fields.proofs.Fields.{field-1}
 use Rattle.events.proofs.read_submit.Goals as goal
 
 pub returns-then-body-lt17 : goal.returns-then-body-lt17
@@ -14,9 +14,9 @@ returns c =
     rw (
       whole 2 17 body _ (omega arith),
       field-1 0 body (omega arith),
-      c.field_4.ensures,
-      c.field_2.ensures,
-      c.field_2-2.ensures,
-      c.field_4-2.ensures,
-      c.field_4-3.ensures,
+      field-4 1 body c.from_le_bytes.ensures c.bytes_at.ensures,
+      field-2 5 body c.from_le_bytes-2.ensures c.bytes_at-2.ensures,
+      field-2 7 body c.from_le_bytes-3.ensures c.bytes_at-3.ensures,
+      field-4 9 body c.from_le_bytes-4.ensures c.bytes_at-4.ensures,
+      field-4 13 body c.from_le_bytes-5.ensures c.bytes_at-5.ensures,
     )

@@ -18,7 +18,7 @@ pub returns : goal.returns
 returns c =
     let a = c.args in
     let x = feeds-closed a.r a.piece.now a.answers.now (sym c.is_open.ensures ∙ c.if-is_open.false)
-    (c.pass.ensures ∙ ap (λ e. as_fed (passed_over a.r a.piece.now e)) c.later-then.ensures) in
+    (c.pass.ensures ∙ ap (λ e. as_fed (passed_over a.r a.piece.now e)) c.later.ensures) in
     record {
       value = x.0;
       answers_after = x.1;

@@ -9,7 +9,7 @@ returns-in-NewBoard c = λ ks k. rw c.in-NewBoard.is (c.new_board.ensures ks k)
 pub returns-in-Submit : goal.returns-in-Submit
 unfolding outcome
 returns-in-Submit c = λ ks k.
-    rw (c.in-Submit.is, ← c.submission_of.ensures) (c.submit.ensures ks k)
+    rw (c.in-Submit.is, ← c.into.ensures) (c.submit.ensures ks k)
 
 pub returns-in-Clock : goal.returns-in-Clock
 returns-in-Clock c = λ ks k. rw c.in-Clock.is (c.clock.ensures ks k)
