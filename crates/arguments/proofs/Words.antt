@@ -1,9 +1,11 @@
 -- An argument's bytes stored one behind the other. Assumes nothing.
 use Prim.Native.Nat.{ℕ, ◌+◌, ◌<◌}
 use mathlib.Core.Path.{◌≡◌, refl, sym, ap, ◌∙◌}
+use mathlib.Core.Bool.{true, false}
 use mathlib.Core.List.{List, [], ◌∷◌, map}
 use native.Mathlib.Omega.{arith}
-use borrow.Author.Tests.{lt-ltb}
+use borrow.Author.Tests.{lt-ltb, eqb-true}
+use lib.Dec.{eqb}
 use lib.ListN.{length, take, set, get_or, length-map, get_or-map}
 use lib.Seq.{sets, take_all}
 use Rattle.text.specs.Digits.{Put}
@@ -11,10 +13,10 @@ use Rattle.text.proofs.Spelling.{put_both, bytes-more}
 use Rattle.arguments.specs.Arguments.{guarded, argument_text, joined_text}
 
 -- an empty argument
-pub argument-none : (l bytes : List ℕ) (at : ℕ) → length bytes ≡ 0 → Put l at (argument_text bytes) (set l at 63) (at + 1)
+pub argument-none : (l bytes : List ℕ) (at : ℕ) → eqb (length bytes) 0 ≡ true → Put l at (argument_text bytes) (set l at 63) (at + 1)
 unfolding argument_text
 argument-none l [] at h = record { stored = refl; place = refl }
-argument-none l (b ∷ bs) at h = absurd (omega arith)
+argument-none l (b ∷ bs) at h = absurd (omega (arith, eqb-true (length (b ∷ bs)) 0 h))
 
 -- one byte more
 pub guarded-more : (l bytes : List ℕ) (at i : ℕ) → i < length bytes
@@ -23,16 +25,16 @@ guarded-more l bytes at i h =
     ap (set (sets l at (take i (map guarded bytes))) (at + i)) (sym (get_or-map guarded bytes i 0)) ∙ bytes-more l (map guarded bytes) at i (omega (arith, length-map bytes guarded))
 
 -- all of them
-guarded-all : (bytes : List ℕ) → 0 < length bytes → map guarded bytes ≡ argument_text bytes
+guarded-all : (bytes : List ℕ) → eqb (length bytes) 0 ≡ false → map guarded bytes ≡ argument_text bytes
 unfolding argument_text
-guarded-all [] h = absurd (omega arith)
+guarded-all [] h = absurd (let z : ◌≡◌ {A = ℕ} 0 1 = cc in omega arith)
 guarded-all (b ∷ bs) h = refl
 
-pub argument-some : {m : List ℕ} {i : ℕ} (l bytes : List ℕ) (at : ℕ) → 0 < length bytes → i ≡ length bytes → m ≡ sets l at (take i (map guarded bytes))
-    → Put l at (argument_text bytes) m (at + i)
-argument-some {m} {i} l bytes at h e f =
-    let size : length (map guarded bytes) ≡ i = length-map bytes guarded ∙ sym e in
-    let all : take i (map guarded bytes) ≡ argument_text bytes = take_all i (map guarded bytes) (omega arith) ∙ guarded-all bytes h in
+pub argument-some : {m : List ℕ} (l bytes : List ℕ) (at : ℕ) → eqb (length bytes) 0 ≡ false → m ≡ sets l at (take (length bytes) (map guarded bytes))
+    → Put l at (argument_text bytes) m (at + length bytes)
+argument-some {m} l bytes at h f =
+    let size : length (map guarded bytes) ≡ length bytes = length-map bytes guarded in
+    let all : take (length bytes) (map guarded bytes) ≡ argument_text bytes = take_all (length bytes) (map guarded bytes) (omega arith) ∙ guarded-all bytes h in
     record { stored = f ∙ ap (sets l at) all; place = ap (λ k. at + k) (sym size ∙ ap length (guarded-all bytes h)) }
 
 -- THE FIRST ARGUMENT, and one behind others

@@ -10,13 +10,7 @@ ghost use Rattle.arguments.specs.Asked.{no_asked, asks_help, asks_from, refused_
 fn guard(b: u8) -> u8
     ensures { result ≡ guarded b }
 {
-    if b == b' ' {
-        return b'?';
-    }
-    if b == b'\t' {
-        return b'?';
-    }
-    b
+    if (b == b' ') | (b == b'\t') { b'?' } else { b }
 }
 
 // An argument from a place on, and so that it is one word; the place after it.
@@ -25,16 +19,14 @@ fn put_word(text: &mut [u8], at: usize, bytes: &[u8]) -> usize
     ensures put { Put text.old at (argument_text bytes.now) text.new result }
     ensures upper_bound { result ≤ at + length bytes.now + 1 }
 {
-    if bytes.len() == 0 {
+    if bytes.is_empty() {
         text[at] = b'?';
         return at + 1;
     }
-    let mut i = 0;
-    while i < bytes.len() {
-        text[at + i] = guard(bytes[i]);
-        i += 1;
+    for (i, b) in bytes.iter().enumerate() {
+        text[at + i] = guard(*b);
     }
-    at + i
+    at + bytes.len()
 }
 
 // The same behind the arguments before it, parted from them by one space.
@@ -61,6 +53,7 @@ pub struct Asked {
     pub size: usize,
 }
 
+#[tactic(auto, unfolding(crate::specs::Asked::no_asked))]
 pub fn no_asked() -> Asked
     ensures { result ≡ no_asked }
 {
@@ -77,13 +70,7 @@ pub fn no_asked() -> Asked
 fn fits(size: usize, n: usize, room: usize) -> bool
     ensures { result ≡ leb (size + n + 2) room }
 {
-    if room < size {
-        return false;
-    }
-    if room - size < n {
-        return false;
-    }
-    2 <= room - size - n
+    (size <= room) && (n <= room - size) && (2 <= room - size - n)
 }
 
 fn is_help(a: Asked, argument: &[u8]) -> bool
@@ -99,54 +86,29 @@ fn is_from(a: Asked, argument: &[u8]) -> bool
 }
 
 // One argument more, the i-th.
+#[tactic(auto, unfolding(crate::specs::Asked::takes_asked, crate::specs::Asked::text_asked))]
 pub fn take(a: Asked, i: usize, argument: &[u8], text: &mut [u8]) -> Asked
     ensures value { result ≡ takes_asked a i argument.now (length text.old) }
     ensures text_after { text.new ≡ text_asked a argument.now text.old }
 {
     if a.named {
         return Asked {
-            help: a.help,
-            wrong: a.wrong,
             named: false,
             file: i,
-            size: a.size,
+            ..a
         };
     }
     if is_help(a, argument) {
-        return Asked {
-            help: true,
-            wrong: a.wrong,
-            named: false,
-            file: a.file,
-            size: a.size,
-        };
+        return Asked { help: true, ..a };
     }
     if is_from(a, argument) {
-        return Asked {
-            help: a.help,
-            wrong: a.wrong,
-            named: true,
-            file: a.file,
-            size: a.size,
-        };
+        return Asked { named: true, ..a };
     }
     if !fits(a.size, argument.len(), text.len()) {
-        return Asked {
-            help: a.help,
-            wrong: true,
-            named: false,
-            file: a.file,
-            size: a.size,
-        };
+        return refuse(a);
     }
     let size = put_argument(text, a.size, argument);
-    Asked {
-        help: a.help,
-        wrong: a.wrong,
-        named: false,
-        file: a.file,
-        size: size,
-    }
+    Asked { size, ..a }
 }
 
 // An argument that is longer than any path: nothing can be told from it.
@@ -154,10 +116,8 @@ pub fn refuse(a: Asked) -> Asked
     ensures { result ≡ refused_asked a }
 {
     Asked {
-        help: a.help,
         wrong: true,
         named: false,
-        file: a.file,
-        size: a.size,
+        ..a
     }
 }

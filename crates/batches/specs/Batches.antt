@@ -1,5 +1,5 @@
 -- What `summary` is told by its arguments: `--help`, `--add`, FILE .. Assumes nothing.
-use Rattle.std.specs.Prelude.{ℕ, true, false, cond, List, [], take}
+use Rattle.std.specs.Prelude.{ℕ, true, false, cond, List, take}
 use Rattle.text.specs.Text.{ascii}
 use Rattle.tokens.specs.Tokens.{same}
 use Rattle.orders.specs.Orders.{option}

@@ -24,10 +24,7 @@ pub struct Name {
 pub fn size_of(name: Name) -> usize
     ensures { (result ≤ 4096) × (take result name.bytes ≡ name_of name) }
 {
-    if name.size <= 4096 {
-        return name.size;
-    }
-    4096
+    name.size.min(4096)
 }
 
 pub fn no_batch() -> Batch
@@ -46,40 +43,20 @@ pub fn take(b: Batch, argument: &[u8]) -> Batch
     ensures { result ≡ includes b argument.now }
 {
     if tokens::is_name(argument, b"--help") {
-        return Batch {
-            help: true,
-            add: b.add,
-            wrong: b.wrong,
-            named: b.named,
-        };
+        return Batch { help: true, ..b };
     }
     if tokens::is_name(argument, b"--add") {
-        return Batch {
-            help: b.help,
-            add: true,
-            wrong: b.wrong,
-            named: b.named,
-        };
+        return Batch { add: true, ..b };
     }
     if orders::is_option(argument) {
         return refuse(b);
     }
-    Batch {
-        help: b.help,
-        add: b.add,
-        wrong: b.wrong,
-        named: true,
-    }
+    Batch { named: true, ..b }
 }
 
 // An argument that is longer than any path: nothing can be told from it.
 pub fn refuse(b: Batch) -> Batch
     ensures { result ≡ spoilt b }
 {
-    Batch {
-        help: b.help,
-        add: b.add,
-        wrong: true,
-        named: b.named,
-    }
+    Batch { wrong: true, ..b }
 }

@@ -1,198 +1,185 @@
 // A line of text as an event: what the program `record` reads.
 #![tactic(auto)]
 
-ghost use Rattle.std.specs.Prelude.{◌≡◌, ◌≤◌, length, take, drop};
-ghost use Rattle.tokens.specs.Tokens.{words, first_word, other_words};
-ghost use Rattle.lines.specs.Lines.{less_return, planner_of, grid_line, board_line, clock_line, withdraw_line, submit_line, said_by, says};
+ghost use Rattle.std.specs.Prelude.{◌≡◌, ◌≢◌, ◌+◌, ◌≤◌, MatchResult};
+ghost use Rattle.tokens.specs.Tokens.{words, first_word, other_words, wrong};
+ghost use Rattle.tokens.specs.Walks.{Numbers};
+ghost use Rattle.lines.specs.Lines.{less_return, bare, planner_of, grid_line, board_line, clock_line, withdraw_line, submit_line, said_by, says};
 
 use events::{Ask, Event};
-use tokens::Sort;
 
-// What a line says: nothing, an event, or which of its words is wrong, counted from 1, in a line of which kind (0: of none).
-#[derive(Clone, Copy)]
-pub enum Line {
-    Nothing,
-    Says(Event),
-    Wrong { kind: u8, word: usize },
+// What kind of line one is by its first word, where that is the name of one.
+#[derive(Clone, Copy, Debug, PartialEq, Eq)]
+pub enum Kind {
+    Unnamed,
+    Board,
+    Submit,
+    Clock,
+    Withdraw,
 }
 
-// How much of a line stands before a carriage return at its end.
-fn less_return(line: &[u8]) -> usize
-    ensures { (take result line.now ≡ less_return line.now) × (result ≤ length line.now) }
+// Which word of a line is wrong, counted from 1.
+#[derive(Clone, Copy, Debug, PartialEq, Eq)]
+pub struct Wrong {
+    pub kind: Kind,
+    pub word: usize,
+}
+
+// What stands of a line before a carriage return at its end.
+fn less_return(line: &[u8]) -> &[u8]
+    ensures { result.now ≡ less_return line.now }
 {
-    let n = line.len();
-    if n == 0 {
-        return 0;
+    match line.strip_suffix(b"\r") {
+        Some(front) => front,
+        None => line,
     }
-    if line[n - 1] == b'\r' {
-        return n - 1;
-    }
-    n
 }
 
-// A planner's number, by name or by number; 256 where the word is neither.
-fn planner(word: &[u8]) -> u32
-    ensures { (result ≡ planner_of word.now) × (result ≤ 256) }
+// What stands of it before a comment too.
+pub fn bare(line: &[u8]) -> &[u8]
+    ensures { result.now ≡ bare line.now }
+{
+    let line = less_return(line);
+    let (front, _) = line.split_at(tokens::find(line, |b| b == b'#'));
+    front
+}
+
+// A planner's number, by name or by number, where the word is either.
+#[tactic(auto, unfolding(crate::specs::Lines::planner_of))]
+fn planner(word: &[u8]) -> Option<u8>
+    ensures { result ≡ planner_of word.now }
 {
     if tokens::is_name(word, b"reference") {
-        return 0;
+        return Some(0);
     }
     if tokens::is_name(word, b"horizon") {
-        return 1;
+        return Some(1);
     }
     if tokens::is_name(word, b"stuffing") {
-        return 2;
+        return Some(2);
     }
     if tokens::is_name(word, b"full") {
-        return 3;
+        return Some(3);
     }
-    let number = tokens::read_number(word, 255);
-    if number.fits {
-        return number.value;
+    let number = tokens::read_number(word, 255)?;
+    Some(number as u8)
+}
+
+// The numbers behind so many words of a line, one for each limit.
+fn numbers<const N: usize>(
+    text: &[u8],
+    mosts: &[u32; N],
+    kind: Kind,
+    before: usize,
+) -> Result<[u32; N], Wrong>
+    requires few { N ≤ 7 }
+    requires one_or_two { before ≤ 2 }
+    ensures { MatchResult result (λ values. Numbers (words text.now) mosts.now values) (λ w. (w ≡ record { kind = kind; word = wrong 1 mosts.now (words text.now) + before }) × (wrong 1 mosts.now (words text.now) ≢ 0)) }
+{
+    match tokens::read_numbers(text, mosts) {
+        Ok(values) => Ok(values),
+        Err(n) => Err(Wrong {
+            kind,
+            word: n + before,
+        }),
     }
-    256
 }
 
 // The words behind the name of each kind of line; those of a board with a third word, which is its grid.
-fn grid_line(text: &[u8], at: usize) -> Line
-    requires { at ≤ length text.now }
-    ensures { result ≡ grid_line (words (drop at text.now)) }
+fn grid_line(text: &[u8]) -> Result<Option<Event>, Wrong>
+    ensures { result ≡ grid_line (words text.now) }
 {
-    let mosts: [u32; 3] = [65535, 65535, 255];
-    let n = tokens::read_numbers(text, at, &mosts);
-    if n.wrong != 0 {
-        return Line::Wrong {
-            kind: 1,
-            word: n.wrong + 1,
-        };
-    }
-    let values = n.values;
-    Line::Says(Event::GridBoard {
-        columns: values[0] as u16,
-        rows: values[1] as u16,
-        grid: values[2] as u8,
-    })
+    let [columns, rows, grid] = numbers(text, &[65535, 65535, 255], Kind::Board, 1)?;
+    Ok(Some(Event::GridBoard {
+        columns: columns as u16,
+        rows: rows as u16,
+        grid: grid as u8,
+    }))
 }
 
 // Of two numbers the third is the wrong one exactly where W and H are right and a word stands behind them: the grid.
-fn board_line(text: &[u8], at: usize) -> Line
-    requires { at ≤ length text.now }
-    ensures { result ≡ board_line (words (drop at text.now)) }
+fn board_line(text: &[u8]) -> Result<Option<Event>, Wrong>
+    ensures { result ≡ board_line (words text.now) }
 {
-    let mosts: [u32; 2] = [65535, 65535];
-    let n = tokens::read_numbers(text, at, &mosts);
-    if n.wrong == 3 {
-        return grid_line(text, at);
+    match tokens::read_numbers(text, &[65535, 65535]) {
+        Ok(values) => Ok(Some(Event::NewBoard {
+            columns: values[0] as u16,
+            rows: values[1] as u16,
+        })),
+        Err(3) => grid_line(text),
+        Err(word) => Err(Wrong {
+            kind: Kind::Board,
+            word: word + 1,
+        }),
     }
-    if n.wrong != 0 {
-        return Line::Wrong {
-            kind: 1,
-            word: n.wrong + 1,
-        };
-    }
-    let values = n.values;
-    Line::Says(Event::NewBoard {
-        columns: values[0] as u16,
-        rows: values[1] as u16,
-    })
 }
 
-fn submit_line(text: &[u8], at: usize) -> Line
-    requires { at ≤ length text.now }
-    ensures { result ≡ submit_line (words (drop at text.now)) }
+fn submit_line(text: &[u8]) -> Result<Option<Event>, Wrong>
+    ensures { result ≡ submit_line (words text.now) }
 {
-    let word = tokens::next(text, at);
-    let from = word.from;
-    let to = word.to;
-    let planner = planner(&text[from..to]);
-    if planner == 256 {
-        return Line::Wrong { kind: 2, word: 2 };
-    }
-    let mosts: [u32; 5] = [u32::MAX, 65535, 65535, u32::MAX, u32::MAX];
-    let n = tokens::read_numbers(text, to, &mosts);
-    if n.wrong != 0 {
-        return Line::Wrong {
-            kind: 2,
-            word: n.wrong + 2,
-        };
-    }
-    let values = n.values;
-    let ask = Ask {
-        id: values[0],
-        w: values[1] as u16,
-        h: values[2] as u16,
-        e: values[3],
-        d: values[4],
+    let (word, behind) = tokens::next(text);
+    let Some(planner) = planner(word) else {
+        return Err(Wrong {
+            kind: Kind::Submit,
+            word: 2,
+        });
     };
-    Line::Says(Event::Submit {
-        planner: planner as u8,
-        ask: ask,
-    })
+    let mosts = [u32::MAX, 65535, 65535, u32::MAX, u32::MAX];
+    let [id, w, h, e, d] = numbers(behind, &mosts, Kind::Submit, 2)?;
+    let ask = Ask {
+        id,
+        w: w as u16,
+        h: h as u16,
+        e,
+        d,
+    };
+    Ok(Some(Event::Submit { planner, ask }))
 }
 
-fn clock_line(text: &[u8], at: usize) -> Line
-    requires { at ≤ length text.now }
-    ensures { result ≡ clock_line (words (drop at text.now)) }
+fn clock_line(text: &[u8]) -> Result<Option<Event>, Wrong>
+    ensures { result ≡ clock_line (words text.now) }
 {
-    let mosts: [u32; 1] = [u32::MAX];
-    let n = tokens::read_numbers(text, at, &mosts);
-    if n.wrong != 0 {
-        return Line::Wrong {
-            kind: 3,
-            word: n.wrong + 1,
-        };
-    }
-    let values = n.values;
-    Line::Says(Event::Clock { instant: values[0] })
+    let [instant] = numbers(text, &[u32::MAX], Kind::Clock, 1)?;
+    Ok(Some(Event::Clock { instant }))
 }
 
-fn withdraw_line(text: &[u8], at: usize) -> Line
-    requires { at ≤ length text.now }
-    ensures { result ≡ withdraw_line (words (drop at text.now)) }
+fn withdraw_line(text: &[u8]) -> Result<Option<Event>, Wrong>
+    ensures { result ≡ withdraw_line (words text.now) }
 {
-    let mosts: [u32; 1] = [u32::MAX];
-    let n = tokens::read_numbers(text, at, &mosts);
-    if n.wrong != 0 {
-        return Line::Wrong {
-            kind: 4,
-            word: n.wrong + 1,
-        };
-    }
-    let values = n.values;
-    Line::Says(Event::Withdraw { id: values[0] })
+    let [id] = numbers(text, &[u32::MAX], Kind::Withdraw, 1)?;
+    Ok(Some(Event::Withdraw { id }))
 }
 
 // A line without its comment and its end.
-fn said(text: &[u8]) -> Line
+#[tactic(auto, unfolding(crate::specs::Lines::said_by))]
+fn said(text: &[u8]) -> Result<Option<Event>, Wrong>
     ensures { result ≡ said_by (first_word (words text.now)) (other_words (words text.now)) }
 {
-    let word = tokens::next(text, 0);
-    let from = word.from;
-    let to = word.to;
-    let name = &text[from..to];
+    let (name, behind) = tokens::next(text);
     if tokens::is_empty(name) {
-        return Line::Nothing;
+        return Ok(None);
     }
     if tokens::is_name(name, b"board") {
-        return board_line(text, to);
+        return board_line(behind);
     }
     if tokens::is_name(name, b"submit") {
-        return submit_line(text, to);
+        return submit_line(behind);
     }
     if tokens::is_name(name, b"clock") {
-        return clock_line(text, to);
+        return clock_line(behind);
     }
     if tokens::is_name(name, b"withdraw") {
-        return withdraw_line(text, to);
+        return withdraw_line(behind);
     }
-    Line::Wrong { kind: 0, word: 1 }
+    Err(Wrong {
+        kind: Kind::Unnamed,
+        word: 1,
+    })
 }
 
-// WHAT A LINE SAYS.
-pub fn read(line: &[u8]) -> Line
+// WHAT A LINE SAYS: an event, or nothing; or which of its words is wrong.
+pub fn read(line: &[u8]) -> Result<Option<Event>, Wrong>
     ensures { result ≡ says line.now }
 {
-    let n = less_return(line);
-    let end = tokens::find(&line[0..n], Sort::Hash);
-    said(&line[0..end])
+    said(bare(line))
 }

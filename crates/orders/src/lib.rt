@@ -13,6 +13,7 @@ pub struct Order {
     pub file: usize,
 }
 
+#[tactic(auto, unfolding(crate::specs::Orders::no_order))]
 pub fn no_order() -> Order
     ensures { result ≡ no_order }
 {
@@ -25,59 +26,36 @@ pub fn no_order() -> Order
 }
 
 // An empty argument, and one that begins with -, names no file.
+#[tactic(auto, unfolding(crate::specs::Orders::option))]
 pub fn is_option(argument: &[u8]) -> bool
     ensures { result ≡ option argument.now }
 {
-    if argument.len() == 0 {
-        return true;
+    match argument.first() {
+        Some(b) => *b == b'-',
+        None => true,
     }
-    argument[0] == b'-'
 }
 
 // One argument more, the i-th.
+#[tactic(auto, unfolding(crate::specs::Orders::takes))]
 pub fn take(o: Order, wordy: bool, i: usize, argument: &[u8]) -> Order
     ensures { result ≡ takes wordy o i argument.now }
 {
     if tokens::is_name(argument, b"--help") {
-        return Order {
-            help: true,
-            words: o.words,
-            wrong: o.wrong,
-            file: o.file,
-        };
+        return Order { help: true, ..o };
     }
     if wordy & tokens::is_name(argument, b"--words") {
-        return Order {
-            help: o.help,
-            words: true,
-            wrong: o.wrong,
-            file: o.file,
-        };
+        return Order { words: true, ..o };
     }
     if is_option(argument) | (o.file != 0) {
-        return Order {
-            help: o.help,
-            words: o.words,
-            wrong: true,
-            file: o.file,
-        };
+        return refuse(o);
     }
-    Order {
-        help: o.help,
-        words: o.words,
-        wrong: o.wrong,
-        file: i,
-    }
+    Order { file: i, ..o }
 }
 
 // An argument that is longer than any path: nothing can be told from it.
 pub fn refuse(o: Order) -> Order
     ensures { result ≡ refused o }
 {
-    Order {
-        help: o.help,
-        words: o.words,
-        wrong: true,
-        file: o.file,
-    }
+    Order { wrong: true, ..o }
 }

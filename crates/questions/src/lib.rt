@@ -1,16 +1,15 @@
 // What the program `ask` is asked: its arguments as one text, a space between two.
 #![tactic(auto)]
 
-ghost use Rattle.std.specs.Prelude.{◌≡◌, ◌≤◌, [], ◌∷◌, length, drop};
+ghost use Rattle.std.specs.Prelude.{◌≡◌, ◌≤◌, [], ◌∷◌, Some, None};
 ghost use Rattle.tokens.specs.Tokens.{words, nth};
-ghost use Rattle.questions.specs.declared.Question.TheVariants.{Wrong, Busy, Stamp};
+ghost use Rattle.questions.specs.declared.Question.TheVariants.{Openings};
 ghost use Rattle.questions.specs.Questions.{right_or, openings_asked, asks};
 
 use tasks::Submission;
 
 #[derive(Clone, Copy)]
 pub enum Question {
-    Wrong,
     Horizon,
     Busy(u32),
     Openings {
@@ -23,127 +22,90 @@ pub enum Question {
     Stamp(u32),
 }
 
-// One that has no number, one that has an instant.
-fn alone(text: &[u8], at: usize, question: Question) -> Question
-    requires { at ≤ length text.now }
-    ensures { result ≡ right_or [] (words (drop at text.now)) question Wrong }
+// One that has no number.
+#[tactic(auto, unfolding(crate::specs::Questions::right_or))]
+fn alone(text: &[u8], question: Question) -> Option<Question>
+    ensures { result ≡ right_or [] (words text.now) (Some question) None }
 {
-    let mosts: [u32; 1] = [0];
-    let n = tokens::read_numbers(text, at, &mosts[0..0]);
-    if n.wrong != 0 {
-        return Question::Wrong;
+    match tokens::read_numbers(text, &[]) {
+        Ok(_) => Some(question),
+        Err(_) => None,
     }
-    question
 }
 
-fn busy(text: &[u8], at: usize) -> Question
-    requires { at ≤ length text.now }
-    ensures { result ≡ right_or (4294967295 ∷ []) (words (drop at text.now)) (Busy (nth 0 (words (drop at text.now)))) Wrong }
+// The instant of one that has an instant.
+#[tactic(auto, unfolding(crate::specs::Questions::right_or))]
+fn instant(text: &[u8]) -> Option<u32>
+    ensures { result ≡ right_or (4294967295 ∷ []) (words text.now) (Some (nth 0 (words text.now))) None }
 {
-    let mosts: [u32; 1] = [u32::MAX];
-    let n = tokens::read_numbers(text, at, &mosts);
-    if n.wrong != 0 {
-        return Question::Wrong;
+    match tokens::read_numbers(text, &[u32::MAX]) {
+        Ok(values) => Some(values[0]),
+        Err(_) => None,
     }
-    let values = n.values;
-    Question::Busy(values[0])
 }
 
-fn stamp(text: &[u8], at: usize) -> Question
-    requires { at ≤ length text.now }
-    ensures { result ≡ right_or (4294967295 ∷ []) (words (drop at text.now)) (Stamp (nth 0 (words (drop at text.now)))) Wrong }
+// Openings of a task, by the numbers of the question; its id is not read, so 0.
+fn opened(w: u32, h: u32, e: u32, d: u32, start: u32, column: u32, most: u32) -> Question
+    requires width { w ≤ 65535 }
+    requires height { h ≤ 65535 }
+    requires column_fits { column ≤ 65535 }
+    ensures { result ≡ Openings (record { id = 0; e = e; d = d; w = w; h = h }) start column most }
 {
-    let mosts: [u32; 1] = [u32::MAX];
-    let n = tokens::read_numbers(text, at, &mosts);
-    if n.wrong != 0 {
-        return Question::Wrong;
+    let task = Submission {
+        id: 0,
+        w: w as u16,
+        h: h as u16,
+        e,
+        d,
+    };
+    Question::Openings {
+        task,
+        start,
+        column: column as u16,
+        most,
     }
-    let values = n.values;
-    Question::Stamp(values[0])
 }
 
 // Four numbers, and a pair to start after, and how many at most.
-fn openings(text: &[u8], at: usize) -> Question
-    requires { at ≤ length text.now }
-    ensures { result ≡ openings_asked (words (drop at text.now)) }
+#[tactic(auto, unfolding(crate::specs::Questions::openings_asked, crate::specs::Questions::right_or, crate::specs::Questions::task_of))]
+fn openings(text: &[u8]) -> Option<Question>
+    ensures { result ≡ openings_asked (words text.now) }
 {
-    let mosts: [u32; 7] = [65535, 65535, u32::MAX, u32::MAX, u32::MAX, 65535, u32::MAX];
-    let four = tokens::read_numbers(text, at, &mosts[0..4]);
-    if four.wrong == 0 {
-        let v = four.values;
-        let task = Submission {
-            id: 0,
-            w: v[0] as u16,
-            h: v[1] as u16,
-            e: v[2],
-            d: v[3],
-        };
-        return Question::Openings {
-            task: task,
-            start: 0,
-            column: 0,
-            most: 1000,
-        };
+    let mosts = [65535, 65535, u32::MAX, u32::MAX];
+    if let Ok(v) = tokens::read_numbers(text, &mosts) {
+        return Some(opened(v[0], v[1], v[2], v[3], 0, 0, 1000));
     }
-    let six = tokens::read_numbers(text, at, &mosts[0..6]);
-    if six.wrong == 0 {
-        let v = six.values;
-        let task = Submission {
-            id: 0,
-            w: v[0] as u16,
-            h: v[1] as u16,
-            e: v[2],
-            d: v[3],
-        };
-        return Question::Openings {
-            task: task,
-            start: v[4],
-            column: v[5] as u16,
-            most: 1000,
-        };
+    let mosts = [65535, 65535, u32::MAX, u32::MAX, u32::MAX, 65535];
+    if let Ok(v) = tokens::read_numbers(text, &mosts) {
+        return Some(opened(v[0], v[1], v[2], v[3], v[4], v[5], 1000));
     }
-    let seven = tokens::read_numbers(text, at, &mosts);
-    if seven.wrong == 0 {
-        let v = seven.values;
-        let task = Submission {
-            id: 0,
-            w: v[0] as u16,
-            h: v[1] as u16,
-            e: v[2],
-            d: v[3],
-        };
-        return Question::Openings {
-            task: task,
-            start: v[4],
-            column: v[5] as u16,
-            most: v[6],
-        };
+    let mosts = [65535, 65535, u32::MAX, u32::MAX, u32::MAX, 65535, u32::MAX];
+    if let Ok(v) = tokens::read_numbers(text, &mosts) {
+        return Some(opened(v[0], v[1], v[2], v[3], v[4], v[5], v[6]));
     }
-    Question::Wrong
+    None
 }
 
-// WHAT IS ASKED.
-pub fn read(text: &[u8]) -> Question
+// WHAT IS ASKED, where it is a question.
+#[tactic(auto, unfolding(crate::specs::Questions::asks, crate::specs::Questions::asked_by, crate::specs::Questions::right_or))]
+pub fn read(text: &[u8]) -> Option<Question>
     ensures { result ≡ asks text.now }
 {
-    let word = tokens::next(text, 0);
-    let from = word.from;
-    let to = word.to;
-    let name = &text[from..to];
+    let (name, behind) = tokens::next(text);
     if tokens::is_name(name, b"horizon") {
-        return alone(text, to, Question::Horizon);
+        return alone(behind, Question::Horizon);
     }
     if tokens::is_name(name, b"busy") {
-        return busy(text, to);
+        return Some(Question::Busy(instant(behind)?));
     }
     if tokens::is_name(name, b"openings") {
-        return openings(text, to);
+        return openings(behind);
     }
     if tokens::is_name(name, b"board") {
-        return alone(text, to, Question::Board);
+        return alone(behind, Question::Board);
     }
     if tokens::is_name(name, b"stamp") {
-        return stamp(text, to);
+        return Some(Question::Stamp(instant(behind)?));
     }
-    Question::Wrong
+    None
 }

@@ -1,12 +1,13 @@
 -- A word as a number, digit by digit: the rest decides, behind the value so far. And a number's decimal text reads as that number. Assumes nothing.
 use Prim.Native.Nat.{ℕ, ◌+◌, ◌-◌, ◌*◌, ◌/◌, ◌%◌, ◌≤◌, ◌<◌}
-use mathlib.Core.Path.{◌≡◌, refl, ap, ◌∙◌}
+use mathlib.Core.Path.{◌≡◌, refl, sym, ap, ◌∙◌}
+use Rattle.std.proofs.Common.{Option, Some, None}
 use mathlib.Core.Bool.{Bool, true, false, cond, ◌&&◌}
 use mathlib.Core.List.{List, [], ◌∷◌, ◌++◌}
 use native.Mathlib.Omega.{arith}
 use native.Mathlib.Numerals.{add-one}
-use borrow.Author.Tests.{leb-true, le-leb, lt-leb}
-use lib.Dec.{leb, ltb}
+use borrow.Author.Tests.{leb-true, eqb-true, ne_eqb, le-leb, lt-leb}
+use lib.Dec.{eqb, leb, ltb}
 use lib.ListN.{length, drop, get_or, length-append, drop_of_length-le}
 use lib.Seq.{drop-cons}
 use Rattle.lists.specs.Lists.{all?}
@@ -18,15 +19,15 @@ use Rattle.tokens.specs.Tokens.{digit, empty, fits}
 unfoldable pub judged : ℕ → ℕ → List ℕ → Bool
 judged most v ds = all? digit ds && leb (value v ds) most
 
-pub fits-none : (most : ℕ) (w : List ℕ) → length w ≡ 0 → fits most w ≡ false
+pub fits-none : (most : ℕ) (w : List ℕ) → eqb (length w) 0 ≡ true → fits most w ≡ false
 unfolding fits empty
 fits-none most [] e = refl
-fits-none most (b ∷ bs) e = absurd (omega arith)
+fits-none most (b ∷ bs) e = absurd (omega (arith, eqb-true (length (b ∷ bs)) 0 e))
 
-pub fits-some : (most : ℕ) (w : List ℕ) → 0 < length w → fits most w ≡ judged most 0 w
+pub fits-some : (most : ℕ) (w : List ℕ) → eqb (length w) 0 ≡ false → fits most w ≡ judged most 0 w
 unfolding fits empty judged
-fits-some most [] h = absurd (omega arith)
-fits-some most (b ∷ bs) h = refl
+fits-some most [] e = absurd (let z : ◌≡◌ {A = ℕ} 0 1 = cc in omega arith)
+fits-some most (b ∷ bs) e = refl
 
 module _ (most v : ℕ) (w : List ℕ) (i : ℕ) (h : i < length w) where
   first : judged most v (drop i w) ≡ judged most v (get_or w i 0 ∷ drop (i + 1) w)
@@ -86,7 +87,7 @@ some-digit x = go (ltb x 10)
 pub fits-decimal : (most x : ℕ) → x ≤ most → fits most (decimal x) ≡ true
 unfolding judged
 fits-decimal most x h =
-    fits-some most (decimal x) (some-digit x) ∙ rw (digits-all (decimal x) (decimal-digits x), decimal-value x) (le-leb x most h)
+    fits-some most (decimal x) (ne_eqb (length (decimal x)) 0 (λ e. omega (arith, some-digit x))) ∙ rw (digits-all (decimal x) (decimal-digits x), decimal-value x) (le-leb x most h)
 
 -- THE DECIMAL TEXT of a number reads as that number: it fits, and its value is the number
 pub reads-decimal : (most x : ℕ) → x ≤ most → (fits most (decimal x) ≡ true) × (value 0 (decimal x) ≡ x)
@@ -108,3 +109,19 @@ fits-most most (b ∷ bs) e = leb-true (value 0 (b ∷ bs)) most (go (all? digit
     go : (s t : Bool) → (s && t) ≡ true → t ≡ true
     go true t h = h
     go false t h = absurd (let z : ◌≡◌ {A = ℕ} 0 1 = cc in omega arith)
+
+-- what a word says that was read as a number, and one that was not
+module _ (most : ℕ) (w : List ℕ) {r : Option ℕ} (e : r ≡ cond (fits most w) (Some (value 0 w)) None) where
+  pub number-some : {v : ℕ} → r ≡ Some v → (fits most w ≡ true) × (v ≡ value 0 w)
+  number-some {v} f = go (fits most w) (sym e ∙ f)
+    where
+      go : (b : Bool) → cond b (Some (value 0 w)) None ≡ Some v → (b ≡ true) × (v ≡ value 0 w)
+      go true g = (refl, cc)
+      go false g = absurd (let z : ◌≡◌ {A = ℕ} 0 1 = cc in omega arith)
+
+  pub number-none : r ≡ None → fits most w ≡ false
+  number-none f = go (fits most w) (sym e ∙ f)
+    where
+      go : (b : Bool) → ◌≡◌ {A = Option ℕ} (cond b (Some (value 0 w)) None) None → b ≡ false
+      go true g = absurd (let z : ◌≡◌ {A = ℕ} 0 1 = cc in omega arith)
+      go false g = refl

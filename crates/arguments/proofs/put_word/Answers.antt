@@ -1,35 +1,31 @@
 -- `arguments::put_word` meets its contract: one byte more each turn. Assumes nothing.
 use Prim.Native.Nat.{◌+◌}
-use mathlib.Core.Path.{◌≡◌, refl, ap, ◌∙◌}
+use mathlib.Core.Path.{◌≡◌, refl, sym, ap, ◌∙◌}
 use native.Mathlib.Omega.{arith}
-use lib.ListN.{length, set, get_or, length-set}
+use mathlib.Core.List.{map}
+use lib.ListN.{length, take, set, get_or}
+use lib.Seq.{sets}
 use Rattle.arguments.specs.Arguments.{guarded}
 use Rattle.arguments.proofs.Words.{guarded-more, argument-none, argument-some}
 use Rattle.arguments.proofs.put_word.Goals as goal
 
-pub returns-then-bytes-eq0 : goal.returns-then-bytes-eq0
-returns-then-bytes-eq0 c = record {
-  put = argument-none _ _ _ c.if-bytes-eq0.true;
-  upper_bound = omega arith;
-}
+pub returns-then-is_empty-clause-put : goal.returns-then-is_empty-clause-put
+returns-then-is_empty-clause-put c = argument-none _ _ _ (sym c.is_empty.ensures ∙ c.if-is_empty.true)
 
 pub loop-i-init : goal.loop-i-init
-loop-i-init c = (omega arith, omega arith, refl, refl)
+loop-i-init c = refl
 
 pub loop-i-preserved : goal.loop-i-preserved
 loop-i-preserved c =
     let l = c.loop-i in
     let a = c.args in
     let byte = guarded (get_or a.bytes.now l.i 0) in
-    let stored = ap (set l.text (a.at + l.i)) c.guard.ensures ∙ ap (λ m. set m (a.at + l.i) byte) l.invariant.3 in
-    (omega arith, omega arith, simp length-set l.invariant.2, stored ∙ guarded-more a.text.now a.bytes.now a.at l.i (omega arith))
+    ap (set l.text (a.at + l.i)) c.guard.ensures ∙ ap (λ m. set m (a.at + l.i) byte) l.invariant ∙ guarded-more a.text.now a.bytes.now a.at l.i (omega arith)
 
-pub returns : goal.returns
-returns c =
+pub returns-clause-put : goal.returns-clause-put
+returns-clause-put c =
     let l = c.loop-i in
     let a = c.args in
-    let e : l.i ≡ length a.bytes.now = omega arith in
-    record {
-      put = argument-some a.text.now a.bytes.now a.at l.invariant.1 e l.invariant.3;
-      upper_bound = omega arith;
-    }
+    let all : l.i ≡ length a.bytes.now = omega arith in
+    let stored = l.invariant ∙ ap (λ n. sets a.text.now a.at (take n (map guarded a.bytes.now))) all in
+    argument-some a.text.now a.bytes.now a.at (sym c.is_empty.ensures ∙ c.if-is_empty.false) stored

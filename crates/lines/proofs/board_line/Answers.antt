@@ -1,33 +1,25 @@
 -- `lines::board_line` meets its contract. Assumes nothing.
-use mathlib.Core.Path.{sym, ◌∙◌}
+use Prim.Native.Nat.{◌+◌}
+use mathlib.Core.Path.{sym, ap, ◌∙◌}
 use native.Mathlib.Omega.{arith}
-use Rattle.lines.specs.Lines.{plain_line}
+use Rattle.lines.specs.declared.Kind.TheVariants.{Board}
+use Rattle.lines.specs.Lines.{wrong_line, plain_line}
 use Rattle.lines.proofs.Saying.{said-wrong, said-right, board-grid, board-plain}
 use Rattle.lines.proofs.board_line.Goals as goal
 
-pub returns-then-n-eq3 : goal.returns-then-n-eq3
-returns-then-n-eq3 c =
-    let n = c.read_numbers-n.ensures in
-    c.grid_line.ensures ∙ board-grid _ (sym n.told ∙ c.if-n-eq3.true)
-
-pub overflow_add-result : goal.overflow_add-result
-overflow_add-result c = omega (arith, c.read_numbers-n.ensures.few)
-
-pub returns-then-n-ne0 : goal.returns-then-n-ne0
+pub returns-in-Ok : goal.returns-in-Ok
 unfolding plain_line
-returns-then-n-ne0 c =
-    let n = c.read_numbers-n.ensures in
-    board-plain _ (λ e. c.if-n-eq3.false (n.told ∙ e)) (said-wrong 1 1 _ n.told c.if-n-ne0.true)
+returns-in-Ok c =
+    let n = c.in-Ok.ensures in
+    board-plain _ (λ e. omega (arith, n.right)) (said-right Board 1 n.right (rw (n.read 0 (omega arith), n.read 1 (omega arith))))
 
-pub overflow_cast-result : goal.overflow_cast-result
-overflow_cast-result c = omega (arith, c.read_numbers-n.ensures.small 0 (omega arith))
+pub returns-in-Err-eq3 : goal.returns-in-Err-eq3
+returns-in-Err-eq3 c =
+    let n = c.in-Err-eq3.ensures in
+    c.grid_line.ensures ∙ board-grid _ (sym n.told ∙ c.in-Err-eq3.field-0-test)
 
-pub overflow_cast-result-2 : goal.overflow_cast-result-2
-overflow_cast-result-2 c = omega (arith, c.read_numbers-n.ensures.small 1 (omega arith))
-
-pub returns : goal.returns
+pub returns-in-Err : goal.returns-in-Err
 unfolding plain_line
-returns c =
-    let n = c.read_numbers-n.ensures in
-    let z = c.if-n-ne0.false in
-    board-plain _ (λ e. c.if-n-eq3.false (n.told ∙ e)) (said-right 1 1 n.told z (rw (n.read z 0 (omega arith), n.read z 1 (omega arith))))
+returns-in-Err c =
+    let n = c.in-Err.ensures in
+    board-plain _ (λ e. c.in-Err.word-test.1 (n.told ∙ e)) (ap (λ w. wrong_line Board (w + 1)) n.told ∙ said-wrong Board 1 _ _ (λ e. omega (arith, n.told, n.some)))

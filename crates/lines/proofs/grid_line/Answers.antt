@@ -1,28 +1,22 @@
 -- `lines::grid_line` meets its contract. Assumes nothing.
+use mathlib.Core.Path.{◌≡◌, ap, ◌∙◌}
 use native.Mathlib.Omega.{arith}
-use Rattle.lines.specs.Lines.{grid_line}
+use borrow.Author.Rules.{rules}
+use Rattle.std.proofs.Common.{Err}
+use Rattle.lines.specs.declared.Kind.TheVariants.{Board}
+use Rattle.lines.specs.Lines.{Line, grid_line}
 use Rattle.lines.proofs.Saying.{said-wrong, said-right}
 use Rattle.lines.proofs.grid_line.Goals as goal
 
-pub overflow_add-result : goal.overflow_add-result
-overflow_add-result c = omega (arith, c.read_numbers-n.ensures.few)
-
-pub returns-then-n-ne0 : goal.returns-then-n-ne0
+pub returns-in_err-columns : goal.returns-in_err-columns
 unfolding grid_line
-returns-then-n-ne0 c = said-wrong 1 1 _ c.read_numbers-n.ensures.told c.if-n-ne0.true
-
-pub overflow_cast-result : goal.overflow_cast-result
-overflow_cast-result c = omega (arith, c.read_numbers-n.ensures.small 0 (omega arith))
-
-pub overflow_cast-result-2 : goal.overflow_cast-result-2
-overflow_cast-result-2 c = omega (arith, c.read_numbers-n.ensures.small 1 (omega arith))
-
-pub overflow_cast-result-3 : goal.overflow_cast-result-3
-overflow_cast-result-3 c = omega (arith, c.read_numbers-n.ensures.small 2 (omega arith))
+returns-in_err-columns c =
+    let w = c.in_err-columns.ensures in
+    let is : ◌≡◌ {A = Line} c.from_residual.result (Err c.in_err-columns.field-0.0) = search rules in
+    is ∙ ap Err w.0 ∙ said-wrong Board 1 _ _ w.1
 
 pub returns : goal.returns
 unfolding grid_line
 returns c =
-    let n = c.read_numbers-n.ensures in
-    let z = c.if-n-ne0.false in
-    said-right 1 1 n.told z (rw (n.read z 0 (omega arith), n.read z 1 (omega arith), n.read z 2 (omega arith)))
+    let n = c.in_ok-columns.ensures in
+    said-right Board 1 n.right (rw (n.read 0 (omega arith), n.read 1 (omega arith), n.read 2 (omega arith)))

@@ -1,21 +1,23 @@
 -- `lines::withdraw_line` meets its contract. Assumes nothing.
-use mathlib.Core.Path.{ap}
+use mathlib.Core.Path.{◌≡◌, ap, ◌∙◌}
 use native.Mathlib.Omega.{arith}
-use Rattle.events.specs.declared.Event.TheVariants.{Withdraw}
-use Rattle.lines.specs.Lines.{withdraw_line}
+use borrow.Author.Rules.{rules}
+use Rattle.std.proofs.Common.{Err}
+use Rattle.events.specs.declared.Event.TheVariants as events
+use Rattle.lines.specs.declared.Kind.TheVariants.{Withdraw}
+use Rattle.lines.specs.Lines.{Line, withdraw_line}
 use Rattle.lines.proofs.Saying.{said-wrong, said-right}
 use Rattle.lines.proofs.withdraw_line.Goals as goal
 
-pub overflow_add-result : goal.overflow_add-result
-overflow_add-result c = omega (arith, c.read_numbers-n.ensures.few)
-
-pub returns-then-n-ne0 : goal.returns-then-n-ne0
+pub returns-in_err-id : goal.returns-in_err-id
 unfolding withdraw_line
-returns-then-n-ne0 c = said-wrong 4 1 _ c.read_numbers-n.ensures.told c.if-n-ne0.true
+returns-in_err-id c =
+    let w = c.in_err-id.ensures in
+    let is : ◌≡◌ {A = Line} c.from_residual.result (Err c.in_err-id.field-0.0) = search rules in
+    is ∙ ap Err w.0 ∙ said-wrong Withdraw 1 _ _ w.1
 
 pub returns : goal.returns
 unfolding withdraw_line
 returns c =
-    let n = c.read_numbers-n.ensures in
-    let z = c.if-n-ne0.false in
-    said-right 4 1 n.told z (ap Withdraw (n.read z 0 (omega arith)))
+    let n = c.in_ok-id.ensures in
+    said-right Withdraw 1 n.right (ap events.Withdraw (n.read 0 (omega arith)))

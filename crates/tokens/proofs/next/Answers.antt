@@ -1,17 +1,30 @@
 -- `tokens::next` meets its contract. Assumes nothing.
-use Prim.Native.Nat.{◌+◌}
-use mathlib.Core.Path.{refl, ap, ◌∙◌}
-use Rattle.lists.specs.Lists.{index_of}
-use Rattle.tokens.specs.declared.Sort.TheVariants.{Blank, Solid}
-use Rattle.tokens.specs.Tokens.{stops_at}
-use native.Mathlib.Omega.{arith}
-use Rattle.tokens.proofs.Walking.{onward, next_word}
+use mathlib.Core.Path.{◌≡◌, ap, ◌∙◌}
+use mathlib.Core.Bool.{not}
+use lib.ListN.{drop}
+use borrow.Author.Rules.{rules}
+use Rattle.tokens.specs.Tokens.{blank}
+use Rattle.tokens.proofs.Walking.{to_solid, to_blank, Found, is-first, are-others, nothing-behind, all-parts}
 use Rattle.tokens.proofs.next.Goals as goal
+use Rattle.tokens.proofs.next.Goals.{After-split_at-2}
+
+found : (c : After-split_at-2) → Found c.args.text.now c.split_at-2.result.0.now c.split_at-2.result.1.now
+found c =
+    let text = c.args.text.now in
+    let blanks : c.find.result ≡ to_solid text = c.find.ensures.value (λ b. not (blank b)) (λ b r p. search rules) in
+    let solid = c.split_at.ensures.back ∙ ap (λ n. drop n text) blanks in
+    let bytes = c.find-2.ensures.value (λ b. blank b) (λ b r p. search rules) ∙ ap to_blank solid in
+    record {
+      word-is = c.split_at-2.ensures.front ∙ rw (bytes, solid);
+      behind-is = c.split_at-2.ensures.back ∙ rw (bytes, solid);
+    }
 
 pub returns : goal.returns
 returns c =
-    let a = c.args in
-    let f = c.find in
-    let blanks = f.ensures.value ∙ ap (index_of (stops_at Solid)) (onward a.text.now a.at) in
-    let bytes = c.find-2.ensures.value ∙ ap (index_of (stops_at Blank)) (onward a.text.now (a.at + f.result)) in
-    next_word a.text.now a.at f.result c.find-2.result _ (omega arith) (omega arith) blanks bytes refl refl
+    let f = found c in
+    record {
+      word = is-first f;
+      behind = are-others f;
+      parts = (_, all-parts f);
+      last = nothing-behind f;
+    }

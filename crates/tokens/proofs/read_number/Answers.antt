@@ -1,6 +1,6 @@
 -- `tokens::read_number` meets its contract. Assumes nothing.
 use Prim.Native.Nat.{ℕ, ◌+◌, ◌-◌, ◌*◌}
-use mathlib.Core.Bool.{true, false, cond}
+use mathlib.Core.Bool.{true, not}
 use mathlib.Core.List.{List}
 use mathlib.Core.Path.{◌≡◌, refl, sym, ap, ◌∙◌}
 use native.Mathlib.Omega.{arith}
@@ -10,60 +10,65 @@ use Rattle.text.specs.Text as T
 use Rattle.tokens.specs.Tokens.{digit, fits}
 use Rattle.tokens.proofs.Judged.{digit-least, judged, fits-none, fits-some}
 use Rattle.tokens.proofs.Judged.{judged-digit, judged-other, judged-large, judged-end, value-digit, value-end}
-use mathlib.Core.Bool.{not}
 use Rattle.tokens.proofs.read_number.Goals as goal
 
--- a word that is no such number
-no : (most : ℕ) (word : List ℕ) → fits most word ≡ false → (false ≡ fits most word) × (0 ≡ cond (fits most word) (T.value 0 word) 0)
-no most word e = (sym e, rw e)
+pub returns-then-is_empty-clause-value : goal.returns-then-is_empty-clause-value
+returns-then-is_empty-clause-value c = let a = c.args in rw (fits-none a.most a.word.now (sym c.is_empty.ensures ∙ c.if-is_empty.true))
 
-pub returns-then-word-eq0 : goal.returns-then-word-eq0
-returns-then-word-eq0 c = let a = c.args in no a.most a.word.now (fits-none a.most a.word.now (omega arith))
+pub loop-b-init : goal.loop-b-init
+loop-b-init c =
+    let a = c.args in
+    record {
+      most = omega arith;
+      judged_so_far = fits-some a.most a.word.now (sym c.is_empty.ensures ∙ c.if-is_empty.false);
+      value_so_far = refl;
+    }
 
-pub loop-i-init : goal.loop-i-init
-loop-i-init c = let a = c.args in (omega arith, omega arith, fits-some a.most a.word.now (omega arith), refl)
-
-pub returns-then-not-is_digit : goal.returns-then-not-is_digit
-returns-then-not-is_digit c =
+pub returns-then-not-is_digit-clause-value : goal.returns-then-not-is_digit-clause-value
+returns-then-not-is_digit-clause-value c =
+    let l = c.loop-b in
     let word : List ℕ = c.args.word.now in
     let most : ℕ = c.args.most in
     let other = sym c.is_digit.ensures ∙ not-true _ (ap not c.if-not-is_digit.true) in
-    no most word (c.loop-i.invariant.2 ∙ judged-other most c.loop-i.value word c.loop-i.i (omega arith) other)
+    rw (l.invariant.judged_so_far ∙ judged-other most l.value word l.b-index (omega arith) other)
 
 pub behind-more-requires : goal.behind-more-requires
 behind-more-requires c =
-    let word : List ℕ = c.args.word.now in
-    let byte : ℕ = get_or word c.loop-i.i 0 in
+    let byte : ℕ = get_or c.args.word.now c.loop-b.b-index 0 in
     let a-digit : digit byte ≡ true = sym c.is_digit.ensures ∙ not-false _ (ap not c.if-not-is_digit.false) in
     omega (arith, digit-least byte a-digit)
 
-pub returns-then-more-most : goal.returns-then-more-most
-returns-then-more-most c =
+pub returns-then-more-from-clause-value : goal.returns-then-more-from-clause-value
+returns-then-more-from-clause-value c =
+    let l = c.loop-b in
     let word : List ℕ = c.args.word.now in
     let most : ℕ = c.args.most in
-    let byte : ℕ = get_or word c.loop-i.i 0 in
-    let more : ℕ = c.loop-i.value * 10 + (byte - 48) in
-    let left : List ℕ = drop (c.loop-i.i + 1) word in
+    let byte : ℕ = get_or word l.b-index 0 in
+    let more : ℕ = l.value * 10 + (byte - 48) in
+    let left : List ℕ = drop (l.b-index + 1) word in
     let a-digit : digit byte ≡ true = sym c.is_digit.ensures ∙ not-false _ (ap not c.if-not-is_digit.false) in
-    let judged-on : fits most word ≡ judged most more left = c.loop-i.invariant.2 ∙ judged-digit most c.loop-i.value word c.loop-i.i (omega arith) a-digit in
-    no most word (judged-on ∙ judged-large most more left (omega arith))
+    let judged-on : fits most word ≡ judged most more left = l.invariant.judged_so_far ∙ judged-digit most l.value word l.b-index (omega arith) a-digit in
+    rw (judged-on ∙ judged-large most more left (omega arith))
 
-pub loop-i-preserved : goal.loop-i-preserved
-loop-i-preserved c =
+pub loop-b-preserved : goal.loop-b-preserved
+loop-b-preserved c =
+    let l = c.loop-b in
     let word : List ℕ = c.args.word.now in
     let most : ℕ = c.args.most in
-    let left : List ℕ = drop (c.loop-i.i + 1) word in
-    let byte : ℕ = get_or word c.loop-i.i 0 in
-    let more : ℕ = c.loop-i.value * 10 + (byte - 48) in
+    let left : List ℕ = drop (l.b-index + 1) word in
+    let byte : ℕ = get_or word l.b-index 0 in
     let a-digit : digit byte ≡ true = sym c.is_digit.ensures ∙ not-false _ (ap not c.if-not-is_digit.false) in
-    let judged-on : fits most word ≡ judged most more left = c.loop-i.invariant.2 ∙ judged-digit most c.loop-i.value word c.loop-i.i (omega arith) a-digit in
     let e = sym c.behind-more.ensures in
-    let Value-on = c.loop-i.invariant.3 ∙ value-digit most c.loop-i.value word c.loop-i.i (omega arith) in
-    (omega arith, omega arith, judged-on ∙ ap (λ v. judged most v left) e, Value-on ∙ ap (λ v. T.value v left) e)
+    record {
+      most = omega arith;
+      judged_so_far = l.invariant.judged_so_far ∙ judged-digit most l.value word l.b-index (omega arith) a-digit ∙ ap (λ v. judged most v left) e;
+      value_so_far = l.invariant.value_so_far ∙ value-digit most l.value word l.b-index (omega arith) ∙ ap (λ v. T.value v left) e;
+    }
 
-pub returns : goal.returns
-returns c =
+pub returns-clause-value : goal.returns-clause-value
+returns-clause-value c =
+    let l = c.loop-b in
     let word : List ℕ = c.args.word.now in
     let most : ℕ = c.args.most in
-    let f : fits most word ≡ true = c.loop-i.invariant.2 ∙ judged-end most c.loop-i.value word c.loop-i.i (omega arith) c.loop-i.invariant.1 in
-    (sym f, rw f (sym (c.loop-i.invariant.3 ∙ value-end c.loop-i.value word c.loop-i.i (omega arith))))
+    let f : fits most word ≡ true = l.invariant.judged_so_far ∙ judged-end most l.value word l.b-index (omega arith) l.invariant.most in
+    rw (f, l.invariant.value_so_far ∙ value-end l.value word l.b-index (omega arith))
