@@ -5,14 +5,17 @@ use mathlib.Core.Bool.{Bool, true, false, cond, ◌&&◌, ◌||◌}
 use mathlib.Core.List.{List, [], ◌∷◌, ◌++◌, append_assoc, append-nil}
 use mathlib.Core.Logic.{◌⊎◌, inl, inr}
 use native.Mathlib.Omega.{arith}
-use borrow.Author.Tests.{eqb-true, eq-eqb, le-leb, lt-leb}
+use borrow.Author.Tests.{eq-eqb, le-leb, lt-leb}
 use lib.Dec.{eqb, leb}
 use lib.ListN.{length}
+use Rattle.std.proofs.Common.{None}
+use Rattle.std.specs.Option.{is_none}
 use Rattle.lists.specs.Lists.{each}
 use Rattle.sheets.specs.Sheets.{plus, fits?}
 use Rattle.sheets.proofs.Laws.{length-plus}
 use Rattle.adding.specs.Adding.{whole_text, Good, AllGood, Holds, TextsHold, no_text, next-text, sum_of, total}
-use Rattle.adding.specs.Machine.{bad_row, later, State, judged, ends, byte_on, fed_on, text_begun, text_ended, text_added, texts_added, begun_state, closing}
+use Rattle.adding.specs.Machine.{bad_row, later, State, judged, byte_on, fed_on, text_begun, text_ended, text_added, texts_added, begun_state, closing}
+use Rattle.adding.proofs.Faults.{faultless}
 use Rattle.adding.proofs.Sums.{is_same, right-rows, good-append, sum-append, sum-size, sum_fits}
 use Rattle.adding.proofs.Back.{whole-read}
 use Rattle.adding.proofs.Room.{newlines, front, front-end, front-room}
@@ -20,7 +23,7 @@ use Rattle.adding.proofs.Taken.{fed-append, taken}
 
 -- a machine that goes on
 abbrev going : List ℕ → List ℕ → ℕ → ℕ → ℕ → Bool → State
-going sum begun size lines line some = record { total = sum; begun = begun; at = record { size = size; lines = lines; line = line; some = some; fault = 0 } }
+going sum begun size lines line some = record { total = sum; begun = begun; at = record { size = size; lines = lines; line = line; some = some; fault = None } }
 
 -- BYTES BEFORE THE LAST are held
 module _ (sum : List ℕ) (line : ℕ) (some : Bool) where
@@ -79,7 +82,7 @@ module _ (sum : List ℕ) (line : ℕ) (some : Bool) where
 -- SHEETS ONE BEHIND ANOTHER: the machine goes on with their sum, between two summaries
 record Behind (sum : List ℕ) (s : State) : Type 0 where
   total : s.total ≡ sum
-  on : s.at.fault ≡ 0
+  on : s.at.fault ≡ None
   none : s.at.size ≡ 0
   some : s.at.some ≡ true
 
@@ -105,19 +108,19 @@ some-given (ns ∷ sheets) sum h size g f =
 -- A TEXT, and texts
 pub record Kept (sum : List ℕ) (s : State) : Type 0 where
   pub total : s.total ≡ sum
-  pub on : s.at.fault ≡ 0
+  pub on : s.at.fault ≡ None
 
-begun-given : (s : State) → s.at.fault ≡ 0 → text_begun s ≡ going s.total [] 0 0 1 false
+begun-given : (s : State) → s.at.fault ≡ None → text_begun s ≡ going s.total [] 0 0 1 false
 unfolding text_begun
-begun-given s on = rw (eq-eqb s.at.fault 0 on) refl
+begun-given s on = rw on refl
 
 ended-given : {sum : List ℕ} (s : State) → Behind sum s → text_ended s ≡ s
 unfolding text_ended
 ended-given s b =
     let behind : (eqb s.at.size 0 && s.at.some) ≡ true = ap₂ ◌&&◌ (eq-eqb s.at.size 0 b.none) b.some in
-    rw (eq-eqb s.at.fault 0 b.on, behind) refl
+    rw (b.on, behind) refl
 
-pub text-given : (s : State) {text : List ℕ} {sheets : List (List ℕ)} → s.at.fault ≡ 0 → length s.total ≡ 83 → Holds text sheets
+pub text-given : (s : State) {text : List ℕ} {sheets : List (List ℕ)} → s.at.fault ≡ None → length s.total ≡ 83 → Holds text sheets
     → fits? (sum_of s.total sheets) ≡ true → Kept (sum_of s.total sheets) (text_added s text)
 unfolding text_added
 text-given s {text} {sheets} on size h f =
@@ -132,7 +135,7 @@ unfolding AllGood
 texts-good no_text = tt
 texts-good (next-text {sheets = sheets} {more = more} h rest) = good-append sheets more h.good (texts-good rest)
 
-pub texts-given : (s : State) {texts sheets : List (List ℕ)} → s.at.fault ≡ 0 → length s.total ≡ 83 → TextsHold texts sheets
+pub texts-given : (s : State) {texts sheets : List (List ℕ)} → s.at.fault ≡ None → length s.total ≡ 83 → TextsHold texts sheets
     → fits? (sum_of s.total sheets) ≡ true → Kept (sum_of s.total sheets) (texts_added s texts)
 unfolding texts_added sum_of
 texts-given s on size no_text f = record { total = refl; on = on }
@@ -149,7 +152,7 @@ pub prints : {texts sheets : List (List ℕ)} → TextsHold texts sheets → fit
 unfolding closing
 prints {texts} {sheets} h f =
     let k = texts-given begun_state refl refl h f in
-    rw (eq-eqb (texts_added begun_state texts).at.fault 0 k.on) (ap whole_text k.total)
+    rw k.on (ap whole_text k.total)
 
 pub record Printed (texts : List (List ℕ)) : Type 0 where
   pub sheets : List (List ℕ)
@@ -159,12 +162,12 @@ pub record Printed (texts : List (List ℕ)) : Type 0 where
 
 pub prints-only : (texts : List (List ℕ)) → (closing (texts_added begun_state texts) ≡ []) ⊎ Printed texts
 unfolding closing
-prints-only texts = go (eqb (texts_added begun_state texts).at.fault 0) refl
+prints-only texts = go (is_none (texts_added begun_state texts).at.fault) refl
   where
-    go : (t : Bool) → eqb (texts_added begun_state texts).at.fault 0 ≡ t
-        → (cond (eqb (texts_added begun_state texts).at.fault 0) (whole_text (texts_added begun_state texts).total) [] ≡ []) ⊎ Printed texts
+    go : (t : Bool) → is_none (texts_added begun_state texts).at.fault ≡ t
+        → (cond (is_none (texts_added begun_state texts).at.fault) (whole_text (texts_added begun_state texts).total) [] ≡ []) ⊎ Printed texts
     go true e =
-        let k = taken texts (eqb-true _ 0 e) in
+        let k = taken texts (faultless _ e) in
         inr (record {
           sheets = k.sheets;
           holds = k.holds;
@@ -174,5 +177,5 @@ prints-only texts = go (eqb (texts_added begun_state texts).at.fault 0) refl
     go false e = inl (rw e refl)
 
 -- so a machine that refused had no such sheets
-pub refused : {texts sheets : List (List ℕ)} → ((texts_added begun_state texts).at.fault ≡ 0 → ⊥) → TextsHold texts sheets → fits? (total sheets) ≡ true → ⊥
+pub refused : {texts sheets : List (List ℕ)} → ((texts_added begun_state texts).at.fault ≡ None → ⊥) → TextsHold texts sheets → fits? (total sheets) ≡ true → ⊥
 refused {texts} u h f = u (texts-given begun_state refl refl h f).on

@@ -1,64 +1,61 @@
 -- The bytes that should be a summary, judged: lines compared, rows that add up, and what comes of it. Assumes nothing.
 use Prim.Native.Nat.{ℕ, suc, ◌+◌, ◌-◌, ◌≤◌, ◌<◌}
 use mathlib.Core.Path.{◌≡◌, refl, sym, ap, ◌∙◌}
-use mathlib.Core.Bool.{Bool, true, false, cond}
+use mathlib.Core.Bool.{Bool, true, false}
 use mathlib.Core.List.{List, [], ◌∷◌}
+use mathlib.Core.Logic.{◌⊎◌, ⊎_elim}
 use native.Mathlib.Omega.{arith}
-use native.Mathlib.Numerals.{add-one}
 use borrow.Author.Tests.{ne_eqb, eq-eqb}
 use lib.Dec.{eqb}
-use lib.ListN.{length, get_or, drop, drop_of_length-le}
-use lib.Seq.{drop-cons}
+use lib.ListN.{length}
+use Rattle.std.proofs.Common.{Some, None}
 use Rattle.tokens.specs.Tokens.{same}
 use Rattle.sheets.specs.Sheets.{plus, wrapped, fits?}
 use Rattle.sheets.proofs.Laws.{fits-wrapped}
 use Rattle.adding.specs.Adding.{whole_text}
+use Rattle.adding.specs.declared.Fault.TheVariants.{Line, Sum}
 use Rattle.adding.specs.declared.Standing.{Standing}
 use Rattle.adding.specs.Machine.{figures_in, same_lines, later, wrong_line, adds_up, bad_row, nothing_held, judged}
 
--- a byte ends one line at most
-pub end-one : (b : ℕ) {e : ℕ} → e ≡ cond (eqb b 10) 1 0 → e ≤ 1
-end-one b {e} = go (eqb b 10)
-  where
-    go : (t : Bool) → e ≡ cond t 1 0 → e ≤ 1
-    go true g = omega arith
-    go false g = omega arith
-
--- LINES SHARED SO FAR, and those of what is left
+-- LINES SHARED SO FAR, and those of what is left of both texts
 module _ (a b : List ℕ) where
-  pub record Shared (n i : ℕ) : Type 0 where
-    pub within : i ≤ length a
-    pub few : n ≤ i
-    pub rest : n + same_lines (drop i a) (drop i b) ≡ same_lines a b
+  pub record Shared (n : ℕ) (xs ys : List ℕ) : Type 0 where
+    pub few : n + length xs ≤ length a
+    pub rest : n + same_lines xs ys ≡ same_lines a b
 
-  shared-end : {n i : ℕ} → Shared n i → same_lines (drop i a) (drop i b) ≡ 0 → n ≡ same_lines a b
-  shared-end {n} {i} s e = omega (arith, s.rest)
-
-  pub shared-all : {n i : ℕ} → Shared n i → length a ≤ i → n ≡ same_lines a b
+  pub shared-all : {n : ℕ} {xs ys : List ℕ} → Shared n xs ys → (length xs ≡ 0) ⊎ (length ys ≡ 0) → n ≡ same_lines a b
   unfolding same_lines
-  shared-all {n} {i} s h = shared-end s (ap (λ l. same_lines l (drop i b)) (drop_of_length-le a h))
-
-  pub shared-short : {n i : ℕ} → Shared n i → length b ≤ i → n ≡ same_lines a b
-  unfolding same_lines
-  shared-short {n} {i} s h = shared-end s (ap (same_lines (drop i a)) (drop_of_length-le b h) ∙ none (drop i a))
+  shared-all {n} {xs} {ys} s h =
+      let none : same_lines xs ys ≡ 0 = ⊎_elim (no_left xs ys) (no_right xs ys) h in
+      omega (arith, s.rest)
     where
-      none : (l : List ℕ) → same_lines l [] ≡ 0
-      none [] = refl
-      none (x ∷ xs) = refl
+      no_left : (l m : List ℕ) → length l ≡ 0 → same_lines l m ≡ 0
+      no_left [] m e = refl
+      no_left (x ∷ l) m e = absurd (omega arith)
 
-  step : (i : ℕ) → i < length a → i < length b
-      → same_lines (drop i a) (drop i b) ≡ cond (eqb (get_or a i 0) (get_or b i 0)) (cond (eqb (get_or a i 0) 10) 1 0 + same_lines (drop (i + 1) a) (drop (i + 1) b)) 0
+      no_right : (l m : List ℕ) → length m ≡ 0 → same_lines l m ≡ 0
+      no_right [] m e = refl
+      no_right (x ∷ l) [] e = refl
+      no_right (x ∷ l) (y ∷ m) e = absurd (omega arith)
+
+  pub shared-unlike : {n x y : ℕ} {xs ys : List ℕ} → Shared n (x ∷ xs) (y ∷ ys) → (x ≡ y → ⊥) → n ≡ same_lines a b
   unfolding same_lines
-  step i h k = rw (drop-cons a i 0 h, drop-cons b i 0 k, add-one i) refl
+  shared-unlike {n} {x} {y} {xs} {ys} s u =
+      let none : same_lines (x ∷ xs) (y ∷ ys) ≡ 0 = rw (ne_eqb x y u) refl in
+      omega (arith, s.rest)
 
-  pub shared-unlike : {n i : ℕ} → Shared n i → i < length a → i < length b → (get_or a i 0 ≡ get_or b i 0 → ⊥) → n ≡ same_lines a b
-  shared-unlike {n} {i} s h k u = shared-end s (step i h k ∙ rw (ne_eqb (get_or a i 0) (get_or b i 0) u) refl)
+  -- a line more, or none
+  pub shared-more : {n x y : ℕ} {xs ys : List ℕ} → Shared n (x ∷ xs) (y ∷ ys) → x ≡ y → x ≡ 10 → Shared (n + 1) xs ys
+  unfolding same_lines
+  shared-more {n} {x} {y} {xs} {ys} s e t =
+      let left : same_lines (x ∷ xs) (y ∷ ys) ≡ 1 + same_lines xs ys = rw (eq-eqb x y e, t) refl in
+      record { few = omega (arith, s.few); rest = omega (arith, s.rest, left) }
 
-  pub shared-more : {n i e : ℕ} → Shared n i → i < length a → i < length b → get_or a i 0 ≡ get_or b i 0 → e ≡ cond (eqb (get_or a i 0) 10) 1 0 → Shared (n + e) (i + 1)
-  shared-more {n} {i} {e} s h k u f =
-      let left : same_lines (drop i a) (drop i b) ≡ e + same_lines (drop (i + 1) a) (drop (i + 1) b) =
-      step i h k ∙ rw (eq-eqb (get_or a i 0) (get_or b i 0) u, f) refl in
-      record { within = omega arith; few = omega (arith, s.few, end-one (get_or a i 0) f); rest = omega (arith, s.rest, left) }
+  pub shared-on : {n x y : ℕ} {xs ys : List ℕ} → Shared n (x ∷ xs) (y ∷ ys) → x ≡ y → (x ≡ 10 → ⊥) → Shared n xs ys
+  unfolding same_lines
+  shared-on {n} {x} {y} {xs} {ys} s e u =
+      let left : same_lines (x ∷ xs) (y ∷ ys) ≡ same_lines xs ys = rw (eq-eqb x y e, ne_eqb x 10 u) (let z : 0 + same_lines xs ys ≡ same_lines xs ys = omega arith in z) in
+      record { few = omega (arith, s.few); rest = omega (arith, s.rest, left) }
 
 -- ROWS THAT ADD UP, so far
 module _ (ns : List ℕ) where
@@ -83,7 +80,7 @@ module _ (total : List ℕ) (line : ℕ) (some : Bool) (text figures : List ℕ)
   abbrev Judged : Standing → List ℕ → Type 0
   Judged r after = (r ≡ (judged total line some text).at) × (after ≡ (judged total line some text).total)
 
-  pub judged-unlike : {t : Bool} {w : ℕ} {r : Standing} → t ≡ same text (whole_text figures) → t ≡ false → w ≡ wrong_line line text → r ≡ nothing_held w some 1 → Judged r total
+  pub judged-unlike : {t : Bool} {w : ℕ} {r : Standing} → t ≡ same text (whole_text figures) → t ≡ false → w ≡ wrong_line line text → r ≡ nothing_held w some (Some Line) → Judged r total
   unfolding judged
   judged-unlike {t} {w} {r} e f g h =
       let like : same text (whole_text (figures_in text)) ≡ false = ap (λ l. same text (whole_text l)) (sym read) ∙ sym e ∙ f in
@@ -96,7 +93,7 @@ module _ (total : List ℕ) (line : ℕ) (some : Bool) (text figures : List ℕ)
     rows_true : row ≡ bad_row (figures_in text) 0 16
     rows_true = rows ∙ ap (λ l. bad_row l 0 16) read
 
-    pub judged-row : {w : ℕ} {r : Standing} → (row ≡ 16 → ⊥) → w ≡ later line (row + 1) → r ≡ nothing_held w some 1 → Judged r total
+    pub judged-row : {w : ℕ} {r : Standing} → (row ≡ 16 → ⊥) → w ≡ later line (row + 1) → r ≡ nothing_held w some (Some Line) → Judged r total
     unfolding judged
     judged-row {w} {r} u g h =
         let bad : eqb (bad_row (figures_in text) 0 16) 16 ≡ false = ap (λ k. eqb k 16) (sym rows_true) ∙ ne_eqb row 16 u in
@@ -109,11 +106,11 @@ module _ (total : List ℕ) (line : ℕ) (some : Bool) (text figures : List ℕ)
       fits-true : fits? (plus total (figures_in text)) ≡ fit
       fits-true = ap (λ l. fits? (plus total l)) (sym read) ∙ sym fitting
 
-      pub judged-past : {r : Standing} → fit ≡ false → r ≡ nothing_held line some 2 → Judged r total
+      pub judged-past : {r : Standing} → fit ≡ false → r ≡ nothing_held line some (Some Sum) → Judged r total
       unfolding judged
       judged-past {r} f h = rw (like-true, all_true, fits-true ∙ f) (h, refl)
 
-      pub judged-added : {w : ℕ} {r : Standing} → fit ≡ true → w ≡ later line 19 → r ≡ nothing_held w true 0 → Judged r sum
+      pub judged-added : {w : ℕ} {r : Standing} → fit ≡ true → w ≡ later line 19 → r ≡ nothing_held w true None → Judged r sum
       unfolding judged
       judged-added {w} {r} f g h =
           let unwrapped : sum ≡ plus total (figures_in text) = summed ∙ fits-wrapped (plus total figures) (sym fitting ∙ f) ∙ ap (plus total) read in

@@ -2,6 +2,7 @@ pub mod Numbers
 pub mod Whole
 pub mod Judging
 pub mod Feeding
+pub mod Faults
 pub mod Sums
 pub mod Taken
 pub mod Back

@@ -1,16 +1,15 @@
 -- Numbers of a text, read byte by byte. Assumes nothing.
-use Prim.Native.Nat.{ℕ, ◌+◌, ◌-◌, ◌*◌, ◌/◌, ◌≤◌, ◌<◌}
+use Prim.Native.Nat.{ℕ, ◌+◌, ◌≤◌, ◌<◌}
 use mathlib.Core.Path.{◌≡◌, refl, sym, ap, ◌∙◌}
 use mathlib.Core.Bool.{Bool, true, false, cond, ◌&&◌}
 use mathlib.Core.List.{List}
 use native.Mathlib.Omega.{arith}
 use native.Mathlib.Numerals.{add-one}
-use borrow.Author.Tests.{le-leb, lt-leb}
 use lib.Dec.{ltb}
 use lib.ListN.{length, get_or, set, drop, drop_of_length-le}
 use lib.Seq.{drop-cons}
 use Rattle.adding.specs.declared.Reading.{Reading}
-use Rattle.adding.specs.Machine.{ends_number, more_value, read, figures_on, figures_in}
+use Rattle.adding.specs.Machine.{ends_number, read, figures_on, figures_in}
 
 -- both of two tests
 pub both_l : (a b : Bool) → (a && b) ≡ true → a ≡ true
@@ -20,13 +19,6 @@ both_l false b e = e
 pub both_r : (a b : Bool) → (a && b) ≡ true → b ≡ true
 both_r true b e = e
 both_r false b e = absurd (let z : ◌≡◌ {A = ℕ} 0 1 = cc in omega arith)
-
--- A DIGIT MORE, as code tests that it fits
-pub value-fits : (v b : ℕ) → v ≤ (18446744073709551615 - (b - 48)) / 10 → b ≤ 57 → v * 10 + (b - 48) ≡ more_value v b
-value-fits v b h k = rw (le-leb (v * 10 + (b - 48)) 18446744073709551615 (omega arith))
-
-pub value-past : (v b : ℕ) → (18446744073709551615 - (b - 48)) / 10 < v → b ≤ 57 → 0 ≡ more_value v b
-value-past v b h k = rw (lt-leb (v * 10 + (b - 48)) 18446744073709551615 (omega arith))
 
 -- THE FIGURES SO FAR, and what the bytes that are left add to them
 module _ (text : List ℕ) where

@@ -11,6 +11,7 @@ use Rattle.tokens.specs.Tokens.{same}
 use Rattle.sheets.specs.Sheets.{plus, fits?}
 use Rattle.sheets.proofs.Laws.{length-plus, fits-part}
 use Rattle.adding.specs.Adding.{Good, AllGood, sum_of, no_figures}
+use Rattle.adding.specs.declared.Mode.TheVariants.{Between}
 use Rattle.adding.specs.declared.Reading.{Reading}
 use Rattle.adding.specs.Machine.{ends_number, read, figures_on, figures_in, adds_up, bad_row}
 
@@ -46,7 +47,7 @@ figures-on figures n r (b ∷ bs) =
 
 pub figures-size : (text : List ℕ) → length (figures_in text) ≡ 83
 unfolding figures_in
-figures-size text = figures-on no_figures 0 (record { value = 0; mode = 0 }) text
+figures-size text = figures-on no_figures 0 (record { value = 0; mode = Between }) text
 
 -- ROWS THAT ADD UP
 module _ (ns : List ℕ) where

@@ -4,9 +4,11 @@ use mathlib.Core.Path.{◌≡◌, refl, sym, ap, ◌∙◌}
 use mathlib.Core.Bool.{Bool, true, false, cond, ◌&&◌}
 use mathlib.Core.List.{List, [], ◌∷◌, ◌++◌, append_assoc, append-nil}
 use native.Mathlib.Omega.{arith}
-use borrow.Author.Tests.{eqb-true, eqb-false}
+use borrow.Author.Tests.{eqb-true}
 use lib.Dec.{eqb, leb}
 use lib.ListN.{length, length-append}
+use Rattle.std.proofs.Common.{None}
+use Rattle.std.specs.Option.{is_none}
 use Rattle.lists.specs.Lists.{all?, each}
 use Rattle.tokens.specs.Tokens.{same}
 use Rattle.sheets.specs.Sheets.{plus, fits?}
@@ -16,6 +18,7 @@ use Rattle.adding.specs.Adding.{whole_text, Good, AllGood, Holds, TextsHold, no_
 use Rattle.adding.specs.declared.Standing.{Standing}
 use Rattle.adding.specs.Machine.{figures_in, bad_row, State, nothing_held, verdict, judged, ends, kept, byte_as, byte_on, fed_on, text_begun}
 use Rattle.adding.specs.Machine.{end_as, text_ended, text_added, texts_added, pieces_fed, begun_state}
+use Rattle.adding.proofs.Faults.{faulty, faultless, not_faultless}
 use Rattle.adding.proofs.Numbers.{both_l, both_r}
 use Rattle.adding.proofs.Sums.{same-is, figures-size, rows_right, sum_more, sum-append, good_more, sum-size}
 
@@ -31,14 +34,14 @@ pub record Added (before : List ℕ) (text : List ℕ) (s : State) : Type 0 wher
   pub fit : fits? (plus before sheet) ≡ true
   pub none : s.begun ≡ []
 
-pub judged-added : (before : List ℕ) (line : ℕ) (some : Bool) (text : List ℕ) → length before ≡ 83 → (judged before line some text).at.fault ≡ 0
+pub judged-added : (before : List ℕ) (line : ℕ) (some : Bool) (text : List ℕ) → length before ≡ 83 → (judged before line some text).at.fault ≡ None
     → Added before text (judged before line some text)
 unfolding judged
 judged-added before line some text size e =
     go (same text (whole_text (figures_in text))) refl (eqb (bad_row (figures_in text) 0 16) 16) refl (fits? (plus before (figures_in text))) refl e
   where
     go : (a : Bool) → same text (whole_text (figures_in text)) ≡ a → (b : Bool) → eqb (bad_row (figures_in text) 0 16) 16 ≡ b → (c : Bool) → fits? (plus before (figures_in text)) ≡ c
-        → (verdict before line some text a b c).at.fault ≡ 0 → Added before text (verdict before line some text a b c)
+        → (verdict before line some text a b c).at.fault ≡ None → Added before text (verdict before line some text a b c)
     go true h true k true f z = record {
       sheet = figures_in text;
       whole = same-is text (whole_text (figures_in text)) h;
@@ -51,9 +54,9 @@ judged-added before line some text size e =
       fit = f;
       none = refl;
     }
-    go true h true k false f z = absurd (omega arith)
-    go true h false k c f z = absurd (omega arith)
-    go false h b k c f z = absurd (omega arith)
+    go true h true k false f z = faulty z
+    go true h false k c f z = faulty z
+    go false h b k c f z = faulty z
 
 -- THE BYTES OF A TEXT SO FAR are those of good sheets and the begin of another
 pub record Came (first text : List ℕ) (s : State) : Type 0 where
@@ -66,11 +69,11 @@ pub record Came (first text : List ℕ) (s : State) : Type 0 where
   pub none : s.at.size ≡ 0 → s.begun ≡ []
 
 -- a machine that has stopped stays as it is
-pub byte-stays : (s : State) (b : ℕ) → eqb s.at.fault 0 ≡ false → byte_on s b ≡ s
+pub byte-stays : (s : State) (b : ℕ) → is_none s.at.fault ≡ false → byte_on s b ≡ s
 unfolding byte_on
 byte-stays s b e = rw e refl
 
-pub fed-stays : (s : State) (bs : List ℕ) → eqb s.at.fault 0 ≡ false → fed_on s bs ≡ s
+pub fed-stays : (s : State) (bs : List ℕ) → is_none s.at.fault ≡ false → fed_on s bs ≡ s
 unfolding fed_on
 fed-stays s [] e = refl
 fed-stays s (b ∷ bs) e = ap (λ r. fed_on r bs) (byte-stays s b e) ∙ fed-stays s bs e
@@ -106,32 +109,32 @@ module _ {first text : List ℕ} (size : length first ≡ 83) where
         none = λ k. a.none;
       }
 
-  pub byte-came : (s : State) (b : ℕ) → Came first text s → (byte_on s b).at.fault ≡ 0 → Came first (text ++ (b ∷ [])) (byte_on s b)
+  pub byte-came : (s : State) (b : ℕ) → Came first text s → (byte_on s b).at.fault ≡ None → Came first (text ++ (b ∷ [])) (byte_on s b)
   unfolding byte_on
-  byte-came s b c e = go (eqb s.at.fault 0) refl (leb 4096 s.at.size) (ends s.at.lines s.at.size b) e
+  byte-came s b c e = go (is_none s.at.fault) refl (leb 4096 s.at.size) (ends s.at.lines s.at.size b) e
     where
       long : length s.total ≡ 83
       long = ap length c.sum ∙ sum-size first c.sheets size c.good
 
-      go : (on : Bool) → eqb s.at.fault 0 ≡ on → (full last : Bool) → (byte_as s b on full last).at.fault ≡ 0 → Came first (text ++ (b ∷ [])) (byte_as s b on full last)
-      go true p true last h = absurd (omega arith)
+      go : (on : Bool) → is_none s.at.fault ≡ on → (full last : Bool) → (byte_as s b on full last).at.fault ≡ None → Came first (text ++ (b ∷ [])) (byte_as s b on full last)
+      go true p true last h = faulty h
       go true p false true h =
           let more = s.begun ++ (b ∷ []) in
           byte-added s (judged s.total s.at.line s.at.some more) b c (judged-added s.total s.at.line s.at.some more long h)
       go true p false false h = byte-kept s b (kept s b).at c refl refl
-      go false p full last h = absurd (eqb-false s.at.fault 0 p h)
+      go false p full last h = absurd (not_faultless s.at.fault p h)
 
 -- ALL BYTES
-pub fed-came : {first : List ℕ} (size : length first ≡ 83) (text : List ℕ) (s : State) (bs : List ℕ) → Came first text s → (fed_on s bs).at.fault ≡ 0
+pub fed-came : {first : List ℕ} (size : length first ≡ 83) (text : List ℕ) (s : State) (bs : List ℕ) → Came first text s → (fed_on s bs).at.fault ≡ None
     → Came first (text ++ bs) (fed_on s bs)
 unfolding fed_on
 fed-came {first} size text s [] c e = rw (append-nil text) c
-fed-came {first} size text s (b ∷ bs) c e = go (eqb (byte_on s b).at.fault 0) refl (λ d. fed-came size (text ++ (b ∷ [])) (byte_on s b) bs d e)
+fed-came {first} size text s (b ∷ bs) c e = go (is_none (byte_on s b).at.fault) refl (λ d. fed-came size (text ++ (b ∷ [])) (byte_on s b) bs d e)
   where
-    go : (t : Bool) → eqb (byte_on s b).at.fault 0 ≡ t
+    go : (t : Bool) → is_none (byte_on s b).at.fault ≡ t
         → (Came first (text ++ (b ∷ [])) (byte_on s b) → Came first ((text ++ (b ∷ [])) ++ bs) (fed_on (byte_on s b) bs)) → Came first (text ++ (b ∷ bs)) (fed_on (byte_on s b) bs)
-    go true p rest = rw (append_assoc text (b ∷ []) bs) at (rest (byte-came size s b c (eqb-true _ 0 p)))
-    go false p rest = absurd (eqb-false (byte_on s b).at.fault 0 p (ap (λ r. r.at.fault) (sym (fed-stays (byte_on s b) bs p)) ∙ e))
+    go true p rest = rw (append_assoc text (b ∷ []) bs) at (rest (byte-came size s b c (faultless _ p)))
+    go false p rest = absurd (not_faultless (byte_on s b).at.fault p (ap (λ r. r.at.fault) (sym (fed-stays (byte_on s b) bs p)) ∙ e))
 
 -- A TEXT that is taken holds sheets, and their sum is added
 pub record Taken (first text : List ℕ) (s : State) : Type 0 where
@@ -140,17 +143,17 @@ pub record Taken (first text : List ℕ) (s : State) : Type 0 where
   pub sum : s.total ≡ sum_of first sheets
   pub fit : fits? s.total ≡ true
 
-pub text-taken : (s : State) (text : List ℕ) → length s.total ≡ 83 → fits? s.total ≡ true → (text_added s text).at.fault ≡ 0 → Taken s.total text (text_added s text)
+pub text-taken : (s : State) (text : List ℕ) → length s.total ≡ 83 → fits? s.total ≡ true → (text_added s text).at.fault ≡ None → Taken s.total text (text_added s text)
 unfolding text_added text_begun text_ended each AllGood sum_of
-text-taken s text size fit e = go (eqb s.at.fault 0) refl e
+text-taken s text size fit e = go (is_none s.at.fault) refl e
   where
     started : State
-    started = record { total = s.total; begun = []; at = nothing_held 1 false 0 }
+    started = record { total = s.total; begun = []; at = nothing_held 1 false None }
 
-    ended : (r : State) → (r.at.fault ≡ 0 → Came s.total text r) → (on : Bool) → eqb r.at.fault 0 ≡ on → (behind : Bool) → (eqb r.at.size 0 && r.at.some) ≡ behind
-        → (end_as r on behind).at.fault ≡ 0 → Taken s.total text (end_as r on behind)
+    ended : (r : State) → (r.at.fault ≡ None → Came s.total text r) → (on : Bool) → is_none r.at.fault ≡ on → (behind : Bool) → (eqb r.at.size 0 && r.at.some) ≡ behind
+        → (end_as r on behind).at.fault ≡ None → Taken s.total text (end_as r on behind)
     ended r came true p true h k =
-        let c = came (eqb-true _ 0 p) in
+        let c = came (faultless _ p) in
         let none : r.begun ≡ [] = c.none (eqb-true r.at.size 0 (both_l (eqb r.at.size 0) r.at.some h)) in
         record {
           sheets = c.sheets;
@@ -162,24 +165,24 @@ text-taken s text size fit e = go (eqb s.at.fault 0) refl e
           sum = c.sum;
           fit = c.fit;
         }
-    ended r came true p false h k = absurd (omega arith)
-    ended r came false p behind h k = absurd (eqb-false r.at.fault 0 p k)
+    ended r came true p false h k = faulty k
+    ended r came false p behind h k = absurd (not_faultless r.at.fault p k)
 
-    fed : (r : State) → (r.at.fault ≡ 0 → Came s.total text r) → (text_ended r).at.fault ≡ 0 → Taken s.total text (text_ended r)
-    fed r came k = ended r came (eqb r.at.fault 0) refl (eqb r.at.size 0 && r.at.some) refl k
+    fed : (r : State) → (r.at.fault ≡ None → Came s.total text r) → (text_ended r).at.fault ≡ None → Taken s.total text (text_ended r)
+    fed r came k = ended r came (is_none r.at.fault) refl (eqb r.at.size 0 && r.at.some) refl k
 
-    go : (t : Bool) → eqb s.at.fault 0 ≡ t → (text_ended (fed_on (cond t started s) text)).at.fault ≡ 0 → Taken s.total text (text_ended (fed_on (cond t started s) text))
+    go : (t : Bool) → is_none s.at.fault ≡ t → (text_ended (fed_on (cond t started s) text)).at.fault ≡ None → Taken s.total text (text_ended (fed_on (cond t started s) text))
     go true h k =
         fed (fed_on started text)
         (λ f. fed-came size [] started text (record { sheets = []; good = tt; whole = refl; sum = refl; fit = fit; some = λ x. never (sym x); none = λ x. refl }) f) k
-    go false h k = fed (fed_on s text) (λ f. absurd (eqb-false s.at.fault 0 h (ap (λ r. r.at.fault) (sym (fed-stays s text h)) ∙ f))) k
+    go false h k = fed (fed_on s text) (λ f. absurd (not_faultless s.at.fault h (ap (λ r. r.at.fault) (sym (fed-stays s text h)) ∙ f))) k
 
 -- SEVERAL TEXTS
-pub text-stays : (s : State) (text : List ℕ) → eqb s.at.fault 0 ≡ false → text_added s text ≡ s
+pub text-stays : (s : State) (text : List ℕ) → is_none s.at.fault ≡ false → text_added s text ≡ s
 unfolding text_added text_begun text_ended
 text-stays s text e = ap text_ended (ap (λ r. fed_on r text) (rw e refl) ∙ fed-stays s text e) ∙ rw e refl
 
-pub texts-stay : (s : State) (texts : List (List ℕ)) → eqb s.at.fault 0 ≡ false → texts_added s texts ≡ s
+pub texts-stay : (s : State) (texts : List (List ℕ)) → is_none s.at.fault ≡ false → texts_added s texts ≡ s
 unfolding texts_added
 texts-stay s [] e = refl
 texts-stay s (t ∷ ts) e = ap (λ r. texts_added r ts) (text-stays s t e) ∙ texts-stay s ts e
@@ -190,17 +193,17 @@ pub record TextsTaken (first : List ℕ) (texts : List (List ℕ)) (s : State) :
   pub sum : s.total ≡ sum_of first sheets
   pub fit : fits? s.total ≡ true
 
-pub texts-taken : (s : State) (texts : List (List ℕ)) → length s.total ≡ 83 → fits? s.total ≡ true → (texts_added s texts).at.fault ≡ 0
+pub texts-taken : (s : State) (texts : List (List ℕ)) → length s.total ≡ 83 → fits? s.total ≡ true → (texts_added s texts).at.fault ≡ None
     → TextsTaken s.total texts (texts_added s texts)
 unfolding texts_added sum_of
 texts-taken s [] size fit e = record { sheets = []; holds = no_text; sum = refl; fit = fit }
-texts-taken s (t ∷ ts) size fit e = go (eqb (text_added s t).at.fault 0) refl (λ l f. texts-taken (text_added s t) ts l f e)
+texts-taken s (t ∷ ts) size fit e = go (is_none (text_added s t).at.fault) refl (λ l f. texts-taken (text_added s t) ts l f e)
   where
-    go : (x : Bool) → eqb (text_added s t).at.fault 0 ≡ x
+    go : (x : Bool) → is_none (text_added s t).at.fault ≡ x
         → (length (text_added s t).total ≡ 83 → fits? (text_added s t).total ≡ true → TextsTaken (text_added s t).total ts (texts_added (text_added s t) ts))
         → TextsTaken s.total (t ∷ ts) (texts_added (text_added s t) ts)
     go true h rest =
-        let a = text-taken s t size fit (eqb-true _ 0 h) in
+        let a = text-taken s t size fit (faultless _ h) in
         let r = rest (ap length a.sum ∙ sum-size s.total a.sheets size a.holds.good) a.fit in
         record {
           sheets = a.sheets ++ r.sheets;
@@ -208,10 +211,10 @@ texts-taken s (t ∷ ts) size fit e = go (eqb (text_added s t).at.fault 0) refl 
           sum = r.sum ∙ ap (λ l. sum_of l r.sheets) a.sum ∙ sym (sum-append s.total a.sheets r.sheets);
           fit = r.fit;
         }
-    go false h rest = absurd (eqb-false (text_added s t).at.fault 0 h (ap (λ r. r.at.fault) (sym (texts-stay (text_added s t) ts h)) ∙ e))
+    go false h rest = absurd (not_faultless (text_added s t).at.fault h (ap (λ r. r.at.fault) (sym (texts-stay (text_added s t) ts h)) ∙ e))
 
 -- FROM THE BEGIN
-pub taken : (texts : List (List ℕ)) → (texts_added begun_state texts).at.fault ≡ 0 → TextsTaken no_figures texts (texts_added begun_state texts)
+pub taken : (texts : List (List ℕ)) → (texts_added begun_state texts).at.fault ≡ None → TextsTaken no_figures texts (texts_added begun_state texts)
 unfolding fits? all?
 taken texts e = texts-taken begun_state texts refl refl e
 

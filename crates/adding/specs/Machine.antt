@@ -1,16 +1,31 @@
 -- The machine that adds summaries, byte by byte; proofs/Taken and proofs/Given say what it comes to in the words of `Adding`. Assumes nothing.
-use Rattle.std.specs.Prelude.{ℕ, zero, suc, ◌+◌, ◌-◌, ◌*◌, Bool, true, false, cond, not, ◌&&◌, ◌||◌, List, [], ◌∷◌, ◌++◌, ltb, leb, eqb, get_or, set, take}
+use Rattle.std.specs.Prelude.{ℕ, zero, suc, ◌+◌, ◌-◌, ◌*◌, Bool, true, false, cond, not, ◌&&◌, ◌||◌, List, [], ◌∷◌, ◌++◌, ltb, leb, eqb, get_or, set, take, Option, Some, None, is_none}
 use Rattle.text.specs.Text.{ascii, decimal}
 use Rattle.tokens.specs.Tokens.{digit, same}
 use Rattle.sheets.specs.Sheets.{plus, fits?}
 use Rattle.adding.specs.Adding.{whole_text, no_figures}
+use Rattle.adding.specs.declared.Fault.{Fault}
+use Rattle.adding.specs.declared.Fault.TheVariants.{Line, Sum}
+use Rattle.adding.specs.declared.Mode.{Mode}
+use Rattle.adding.specs.declared.Mode.TheVariants.{Between, Inside, Behind}
 use Rattle.adding.specs.declared.Reading.{Reading}
 use Rattle.adding.specs.declared.Standing.{Standing}
 use Rattle.adding.specs.declared.Adding.{Adding}
 
+-- a number has begun; a slash stands before
+abbrev pub inside? : Mode → Bool
+inside? Between = false
+inside? Inside = true
+inside? Behind = false
+
+abbrev pub behind? : Mode → Bool
+behind? Between = false
+behind? Inside = false
+behind? Behind = true
+
 -- READING NUMBERS: a number ends before a byte that is no digit and no slash (47)
-abbrev pub ends_number : ℕ → ℕ → Bool
-ends_number mode b = (eqb mode 1 && not (digit b)) && not (eqb b 47)
+abbrev pub ends_number : Mode → ℕ → Bool
+ends_number mode b = (inside? mode && not (digit b)) && not (eqb b 47)
 
 -- one digit more, of what 64 bits hold
 abbrev pub more_value : ℕ → ℕ → ℕ
@@ -19,8 +34,8 @@ more_value v b = cond (leb (v * 10 + (b - 48)) 18446744073709551615) (v * 10 + (
 -- one byte more; the numbers of a ratio are passed over
 unfoldable pub read : Reading → ℕ → Reading
 read r b =
-    cond (eqb b 47) (record { value = 0; mode = 2 })
-    (cond (digit b) (cond (eqb r.mode 2) r (record { value = more_value r.value b; mode = 1 })) (record { value = 0; mode = 0 }))
+    cond (eqb b 47) (record { value = 0; mode = Behind })
+    (cond (digit b) (cond (behind? r.mode) r (record { value = more_value r.value b; mode = Inside })) (record { value = 0; mode = Between }))
 
 -- the numbers of a text behind n others, over those of a sheet
 unfoldable pub figures_on : List ℕ → ℕ → Reading → List ℕ → List ℕ
@@ -29,7 +44,7 @@ figures_on figures n r (b ∷ bs) =
     cond (ends_number r.mode b && ltb n 83) (figures_on (set figures n r.value) (n + 1) (read r b) bs) (figures_on figures n (read r b) bs)
 
 unfoldable pub figures_in : List ℕ → List ℕ
-figures_in text = figures_on no_figures 0 (record { value = 0; mode = 0 }) text
+figures_in text = figures_on no_figures 0 (record { value = 0; mode = Between }) text
 
 -- how many lines two texts share from their begin
 unfoldable pub same_lines : List ℕ → List ℕ → ℕ
@@ -61,7 +76,7 @@ pub record State : Type 0 where
   pub at : Standing
 
 -- nothing is held: a summary begins with a line, or the text was refused in it for a reason
-abbrev pub nothing_held : ℕ → Bool → ℕ → Standing
+abbrev pub nothing_held : ℕ → Bool → Option Fault → Standing
 nothing_held line some fault = record { size = 0; lines = 0; line = line; some = some; fault = fault }
 
 -- what comes of bytes that should be a summary: whether they are the text of their numbers, each row adds up, and the sums fit
@@ -69,9 +84,9 @@ abbrev pub verdict : List ℕ → ℕ → Bool → List ℕ → Bool → Bool �
 verdict total line some text like right fit =
     cond like
     (cond right
-    (cond fit (record { total = plus total (figures_in text); begun = []; at = nothing_held (later line 19) true 0 }) (record { total = total; begun = []; at = nothing_held line some 2 }))
-    (record { total = total; begun = []; at = nothing_held (later line (bad_row (figures_in text) 0 16 + 1)) some 1 }))
-    (record { total = total; begun = []; at = nothing_held (wrong_line line text) some 1 })
+    (cond fit (record { total = plus total (figures_in text); begun = []; at = nothing_held (later line 19) true None }) (record { total = total; begun = []; at = nothing_held line some (Some Sum) }))
+    (record { total = total; begun = []; at = nothing_held (later line (bad_row (figures_in text) 0 16 + 1)) some (Some Line) }))
+    (record { total = total; begun = []; at = nothing_held (wrong_line line text) some (Some Line) })
 
 unfoldable pub judged : List ℕ → ℕ → Bool → List ℕ → State
 judged total line some text =
@@ -90,19 +105,19 @@ abbrev pub kept : State → ℕ → State
 kept s b = record {
   total = s.total;
   begun = s.begun ++ (b ∷ []);
-  at = record { size = s.at.size + 1; lines = counted s.at.lines b; line = s.at.line; some = s.at.some; fault = 0 };
+  at = record { size = s.at.size + 1; lines = counted s.at.lines b; line = s.at.line; some = s.at.some; fault = None };
 }
 
 -- what comes of a byte more: whether the machine goes on, its buffer is full, and the byte ends a summary
 abbrev pub byte_as : State → ℕ → Bool → Bool → Bool → State
 byte_as s b on full last =
     cond on
-    (cond full (record { total = s.total; begun = []; at = nothing_held s.at.line s.at.some 1 })
+    (cond full (record { total = s.total; begun = []; at = nothing_held s.at.line s.at.some (Some Line) })
     (cond last (judged s.total s.at.line s.at.some (s.begun ++ (b ∷ []))) (kept s b)))
     s
 
 unfoldable pub byte_on : State → ℕ → State
-byte_on s b = byte_as s b (eqb s.at.fault 0) (leb 4096 s.at.size) (ends s.at.lines s.at.size b)
+byte_on s b = byte_as s b (is_none s.at.fault) (leb 4096 s.at.size) (ends s.at.lines s.at.size b)
 
 -- bytes, one after the other
 unfoldable pub fed_on : State → List ℕ → State
@@ -111,13 +126,13 @@ fed_on s (b ∷ bs) = fed_on (byte_on s b) bs
 
 -- a text begins; it ends: behind a summary, or it is refused
 unfoldable pub text_begun : State → State
-text_begun s = cond (eqb s.at.fault 0) (record { total = s.total; begun = []; at = nothing_held 1 false 0 }) s
+text_begun s = cond (is_none s.at.fault) (record { total = s.total; begun = []; at = nothing_held 1 false None }) s
 
 abbrev pub end_as : State → Bool → Bool → State
-end_as s on behind = cond on (cond behind s (record { total = s.total; begun = []; at = nothing_held (wrong_line s.at.line s.begun) s.at.some 1 })) s
+end_as s on behind = cond on (cond behind s (record { total = s.total; begun = []; at = nothing_held (wrong_line s.at.line s.begun) s.at.some (Some Line) })) s
 
 unfoldable pub text_ended : State → State
-text_ended s = end_as s (eqb s.at.fault 0) (eqb s.at.size 0 && s.at.some)
+text_ended s = end_as s (is_none s.at.fault) (eqb s.at.size 0 && s.at.some)
 
 -- a text from its begin to its end; texts, one after the other
 unfoldable pub text_added : State → List ℕ → State
@@ -141,14 +156,20 @@ state_in a = state_of a.total a.held a.at
 
 -- nothing is added yet
 abbrev pub begun_state : State
-begun_state = record { total = no_figures; begun = []; at = nothing_held 1 false 0 }
+begun_state = record { total = no_figures; begun = []; at = nothing_held 1 false None }
 
 -- what is printed at the end: nothing where something was refused
 unfoldable pub closing : State → List ℕ
-closing s = cond (eqb s.at.fault 0) (whole_text s.total) []
+closing s = cond (is_none s.at.fault) (whole_text s.total) []
+
+-- a sum took more than 64 bits
+abbrev pub past? : Option Fault → Bool
+past? None = false
+past? (Some Line) = false
+past? (Some Sum) = true
 
 -- why it was refused, behind the name of the program and that of the text
 unfoldable pub refusal_text : Standing → List ℕ
 refusal_text at =
-    cond (eqb at.fault 2) (ascii "the summary at line " ++ (decimal at.line ++ ascii " makes a sum of more than 64 bits\n"))
+    cond (past? at.fault) (ascii "the summary at line " ++ (decimal at.line ++ ascii " makes a sum of more than 64 bits\n"))
     (ascii "line " ++ (decimal at.line ++ ascii " is not what a summary that ends in 'stop end' has there\n"))

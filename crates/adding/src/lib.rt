@@ -1,29 +1,44 @@
 // Whole summaries added up, piece by piece: the machine that `summary --add` runs.
 #![tactic(auto)]
 
-ghost use Rattle.std.specs.Prelude.{◌≡◌, cond, ◌&&◌, ◌+◌, ◌≤◌, ◌<◌, leb, eqb, length};
+ghost use Rattle.std.specs.Prelude.{◌≡◌, ◌+◌, ◌≤◌, ◌<◌, eqb, length, is_none, IfSome, IfNone};
 ghost use Rattle.text.specs.Digits.{Put};
 ghost use Rattle.tokens.specs.Tokens.{same};
 ghost use Rattle.adding.specs.Adding.{whole_text};
 ghost use Rattle.adding.specs.Machine.{ends_number, more_value, read, figures_in, same_lines, wrong_line, later, adds_up, bad_row, nothing_held};
 ghost use Rattle.adding.specs.Machine.{judged, ends, counted, byte_on, fed_on, text_begun, text_ended, state_of, state_in, begun_state, closing, refusal_text};
 
-// How far a text was read: the number that has begun; 0 between numbers, 1 in a number, 2 behind a slash.
+// Where in a text: between numbers, in a number, behind a slash.
+#[derive(Clone, Copy)]
+enum Mode {
+    Between,
+    Inside,
+    Behind,
+}
+
+// How far a text was read, with the number that has begun.
 #[derive(Clone, Copy)]
 struct Reading {
     value: u64,
-    mode: u8,
+    mode: Mode,
+}
+
+// Why a text was refused: by a line, or by a sum past 64 bits.
+#[derive(Clone, Copy)]
+pub enum Fault {
+    Line,
+    Sum,
 }
 
 // Where the machine stands in a text: how many bytes and lines of a summary are held, the number of the line that the summary
-// begins with, whether the text held one before, and why it was refused: 0 not, 1 by a line, 2 by a sum past 64 bits.
+// begins with, whether the text held one before, and why it was refused, if it was.
 #[derive(Clone, Copy)]
 pub struct Standing {
     pub size: usize,
     pub lines: usize,
     pub line: u64,
     pub some: bool,
-    pub fault: u8,
+    pub fault: Option<Fault>,
 }
 
 // The sums so far, the bytes of a summary that has begun, the first `size` of them, and where the machine stands.
@@ -34,16 +49,10 @@ pub struct Adding {
     pub at: Standing,
 }
 
-fn is_digit(b: u8) -> bool
-    ensures { result ≡ (leb 48 b && leb b 57) }
-{
-    (48 <= b) & (b <= 57)
-}
-
-fn ends_number(mode: u8, b: u8) -> bool
+fn ends_number(mode: Mode, b: u8) -> bool
     ensures { result ≡ ends_number mode b }
 {
-    (mode == 1) & !is_digit(b) & (b != b'/')
+    matches!(mode, Mode::Inside) & !b.is_ascii_digit() & (b != b'/')
 }
 
 // One digit more; 0 where that takes more than 64 bits.
@@ -51,12 +60,10 @@ fn more_value(v: u64, b: u8) -> u64
     requires { (48 ≤ b) × (b ≤ 57) }
     ensures { result ≡ more_value v b }
 {
-    let d = (b - 48) as u64;
-    if v <= (u64::MAX - d) / 10 {
-        v * 10 + d
-    } else {
-        0
-    }
+    let digit = u64::from(b - b'0');
+    v.checked_mul(10)
+        .and_then(|tens| tens.checked_add(digit))
+        .unwrap_or(0)
 }
 
 // One byte more. The numbers of a ratio, which are told before it, are passed over.
@@ -64,18 +71,24 @@ fn read_byte(r: Reading, b: u8) -> Reading
     ensures { result ≡ read r b }
 {
     if b == b'/' {
-        return Reading { value: 0, mode: 2 };
-    }
-    if (48 <= b) & (b <= 57) {
-        if r.mode == 2 {
-            return r;
-        }
         return Reading {
-            value: more_value(r.value, b),
-            mode: 1,
+            value: 0,
+            mode: Mode::Behind,
         };
     }
-    Reading { value: 0, mode: 0 }
+    if !b.is_ascii_digit() {
+        return Reading {
+            value: 0,
+            mode: Mode::Between,
+        };
+    }
+    match r.mode {
+        Mode::Behind => r,
+        Mode::Between | Mode::Inside => Reading {
+            value: more_value(r.value, b),
+            mode: Mode::Inside,
+        },
+    }
 }
 
 // The first 83 numbers of a text.
@@ -84,16 +97,16 @@ fn read_figures(text: &[u8]) -> [u64; 83]
 {
     let mut figures: [u64; 83] = [0; 83];
     let mut n: usize = 0;
-    let mut r = Reading { value: 0, mode: 0 };
-    let mut i: usize = 0;
-    while i < text.len() {
-        let b = text[i];
-        if ends_number(r.mode, b) & (n < 83) {
+    let mut r = Reading {
+        value: 0,
+        mode: Mode::Between,
+    };
+    for b in text {
+        if ends_number(r.mode, *b) & (n < 83) {
             figures[n] = r.value;
             n += 1;
         }
-        r = read_byte(r, b);
-        i += 1;
+        r = read_byte(r, *b);
     }
     figures
 }
@@ -112,14 +125,7 @@ fn is_whole(text: &[u8], figures: &[u64; 83]) -> bool
 {
     let mut out = [0u8; 8192];
     let n = put_whole(&mut out, figures);
-    tokens::is_name(text, &out[0..n])
-}
-
-// 1 for a byte that ends a line.
-fn line_end(b: u8) -> usize
-    ensures { result ≡ cond (eqb b 10) 1 0 }
-{
-    if b == b'\n' { 1 } else { 0 }
+    tokens::is_name(text, &out[..n])
 }
 
 // How many lines two texts share from their begin.
@@ -127,16 +133,13 @@ fn same_lines(a: &[u8], b: &[u8]) -> usize
     ensures { result ≡ same_lines a.now b.now }
 {
     let mut n: usize = 0;
-    let mut i: usize = 0;
-    while i < a.len() {
-        if b.len() <= i {
+    for (x, y) in a.iter().zip(b) {
+        if x != y {
             return n;
         }
-        if a[i] != b[i] {
-            return n;
+        if *x == b'\n' {
+            n += 1;
         }
-        n += line_end(a[i]);
-        i += 1;
     }
     n
 }
@@ -144,11 +147,7 @@ fn same_lines(a: &[u8], b: &[u8]) -> usize
 fn later_line(line: u64, n: usize) -> u64
     ensures { result ≡ later line n }
 {
-    if n as u64 <= u64::MAX - line {
-        line + n as u64
-    } else {
-        u64::MAX
-    }
+    line.saturating_add(n as u64)
 }
 
 // The first line of a text that is not as a summary of its numbers has it.
@@ -158,20 +157,13 @@ fn wrong_line(line: u64, text: &[u8]) -> u64
     let figures = read_figures(text);
     let mut out = [0u8; 8192];
     let n = put_whole(&mut out, &figures);
-    later_line(line, same_lines(text, &out[0..n]))
+    later_line(line, same_lines(text, &out[..n]))
 }
 
-// Without a sum, which might wrap.
 fn is_sum(whole: u64, a: u64, b: u64, c: u64) -> bool
     ensures { result ≡ eqb whole (a + b + c) }
 {
-    if whole < a {
-        return false;
-    }
-    if whole - a < b {
-        return false;
-    }
-    whole - a - b == c
+    u128::from(whole) == u128::from(a) + u128::from(b) + u128::from(c)
 }
 
 fn adds_up(figures: &[u64; 83], row: usize) -> bool
@@ -187,22 +179,21 @@ fn adds_up(figures: &[u64; 83], row: usize) -> bool
     )
 }
 
-// The first row whose tasks submitted are not those taken, rejected and refused; 16 where there is none.
-fn bad_row(figures: &[u64; 83]) -> usize
-    ensures { (result ≡ bad_row figures.now 0 16) × (result ≤ 16) }
+// The first row whose tasks submitted are not those taken, rejected and refused, if there is one.
+fn bad_row(figures: &[u64; 83]) -> Option<usize>
+    ensures some { IfSome result (λ row. (row < 16) × (row ≡ bad_row figures.now 0 16)) }
+    ensures none { IfNone result (bad_row figures.now 0 16 ≡ 16) }
 {
-    let mut row: usize = 0;
-    while row < 16 {
+    for row in 0..16 {
         if !adds_up(figures, row) {
-            return row;
+            return Some(row);
         }
-        row += 1;
     }
-    row
+    None
 }
 
 // Nothing is held: a summary begins with this line, or the text was refused in it.
-fn nothing_held(line: u64, some: bool, fault: u8) -> Standing
+fn nothing_held(line: u64, some: bool, fault: Option<Fault>) -> Standing
     ensures { result ≡ nothing_held line some fault }
 {
     Standing {
@@ -221,19 +212,18 @@ fn judge(line: u64, some: bool, total: &mut [u64; 83], text: &[u8]) -> Standing
 {
     let figures = read_figures(text);
     if !is_whole(text, &figures) {
-        return nothing_held(wrong_line(line, text), some, 1);
+        return nothing_held(wrong_line(line, text), some, Some(Fault::Line));
     }
-    let row = bad_row(&figures);
-    if row != 16 {
-        return nothing_held(later_line(line, row + 1), some, 1);
+    if let Some(row) = bad_row(&figures) {
+        return nothing_held(later_line(line, row + 1), some, Some(Fault::Line));
     }
     let sums = sheets::add(total, &figures);
     if !sums.fit {
-        return nothing_held(line, some, 2);
+        return nothing_held(line, some, Some(Fault::Sum));
     }
     let next = sums.figures;
     *total = next;
-    nothing_held(later_line(line, 19), true, 0)
+    nothing_held(later_line(line, 19), true, None)
 }
 
 fn is_end(lines: usize, size: usize, b: u8) -> bool
@@ -257,24 +247,21 @@ fn take_byte(at: Standing, total: &mut [u64; 83], held: &mut [u8; 4096], b: u8) 
     ensures result_after { state_of total.new held.new result ≡ byte_on (state_of total.old held.old at) b }
     ensures held_len { length held.new ≡ 4096 }
 {
-    if at.fault != 0 {
+    if at.fault.is_some() {
         return at;
     }
     let size = at.size;
     if 4096 <= size {
-        return nothing_held(at.line, at.some, 1);
+        return nothing_held(at.line, at.some, Some(Fault::Line));
     }
     held[size] = b;
     if is_end(at.lines, size, b) {
-        let all = &held[..];
-        return judge(at.line, at.some, total, &all[0..size + 1]);
+        return judge(at.line, at.some, total, &held[..size + 1]);
     }
     Standing {
         size: size + 1,
         lines: count(at.lines, b),
-        line: at.line,
-        some: at.some,
-        fault: 0,
+        ..at
     }
 }
 
@@ -285,7 +272,7 @@ pub fn begin() -> Adding
     Adding {
         total: [0; 83],
         held: [0; 4096],
-        at: nothing_held(1, false, 0),
+        at: nothing_held(1, false, None),
     }
 }
 
@@ -293,16 +280,12 @@ pub fn begin() -> Adding
 pub fn begin_text(a: Adding) -> Adding
     ensures { state_in result ≡ text_begun (state_in a) }
 {
-    let at = a.at;
-    if at.fault != 0 {
+    if a.at.fault.is_some() {
         return a;
     }
-    let total = a.total;
-    let held = a.held;
     Adding {
-        total,
-        held,
-        at: nothing_held(1, false, 0),
+        at: nothing_held(1, false, None),
+        ..a
     }
 }
 
@@ -310,22 +293,15 @@ pub fn begin_text(a: Adding) -> Adding
 pub fn feed(a: Adding, piece: &[u8]) -> Adding
     ensures { state_in result ≡ fed_on (state_in a) piece.now }
 {
-    let mut total = a.total;
-    let mut held = a.held;
-    let mut at = a.at;
-    let mut i: usize = 0;
-    while i < piece.len() {
-        at = take_byte(at, &mut total, &mut held, piece[i]);
-        i += 1;
+    let Adding {
+        mut total,
+        mut held,
+        mut at,
+    } = a;
+    for b in piece {
+        at = take_byte(at, &mut total, &mut held, *b);
     }
     Adding { total, held, at }
-}
-
-// No more than the buffer has.
-fn shorter(size: usize) -> usize
-    ensures { (result ≤ 4096) × (result ≡ cond (leb size 4096) size 4096) }
-{
-    if size <= 4096 { size } else { 4096 }
 }
 
 // THE END OF A TEXT: it is refused where it ends inside a summary or held none.
@@ -333,29 +309,24 @@ pub fn end_text(a: Adding) -> Adding
     ensures { state_in result ≡ text_ended (state_in a) }
 {
     let at = a.at;
-    if at.fault != 0 {
+    if at.fault.is_some() {
         return a;
     }
     if (at.size == 0) & at.some {
         return a;
     }
-    let total = a.total;
-    let held = a.held;
-    let size = shorter(at.size);
-    let line = wrong_line(at.line, &held[0..size]);
+    let line = wrong_line(at.line, &a.held[..at.size.min(4096)]);
     Adding {
-        total,
-        held,
-        at: nothing_held(line, at.some, 1),
+        at: nothing_held(line, at.some, Some(Fault::Line)),
+        ..a
     }
 }
 
 // Nothing was refused.
 pub fn goes_on(a: Adding) -> bool
-    ensures { result ≡ eqb a.at.fault 0 }
+    ensures { result ≡ is_none a.at.fault }
 {
-    let at = a.at;
-    at.fault == 0
+    a.at.fault.is_none()
 }
 
 // The sum as a summary, at the front of the buffer; how many bytes it takes. None where something was refused.
@@ -363,12 +334,10 @@ pub fn close(a: Adding, out: &mut [u8; 8192]) -> usize
     ensures put { Put out.old 0 (closing (state_in a)) out.new result }
     ensures upper_bound { (result ≤ 3004) × (length out.new ≡ length out.old) }
 {
-    let at = a.at;
-    if at.fault != 0 {
+    if a.at.fault.is_some() {
         return 0;
     }
-    let total = a.total;
-    put_whole(out, &total)
+    put_whole(out, &a.total)
 }
 
 // A text from a place of a buffer on; the place after it.
@@ -386,7 +355,7 @@ pub fn put_refusal(a: Adding, out: &mut [u8; 128]) -> usize
     ensures upper_bound { (result ≤ 128) × (length out.new ≡ length out.old) }
 {
     let at = a.at;
-    if at.fault == 2 {
+    if matches!(at.fault, Some(Fault::Sum)) {
         let line_at = put(out, 0, b"the summary at line ");
         let after = text::put_wide(out, line_at, at.line);
         return put(out, after, b" makes a sum of more than 64 bits\n");

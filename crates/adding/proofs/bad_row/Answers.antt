@@ -1,27 +1,17 @@
 -- `adding::bad_row` meets its contract: one row more each turn. Assumes nothing.
-use Prim.Native.Nat.{◌-◌}
-use mathlib.Core.Path.{refl, sym, ◌∙◌}
+use mathlib.Core.Path.{◌≡◌, sym, ◌∙◌}
 use native.Mathlib.Omega.{arith}
-use borrow.Author.Tests.{not-true, not-false}
 use Rattle.adding.proofs.Judging.{rows_more, rows-bad, rows_all}
-use mathlib.Core.Path.{ap}
-use mathlib.Core.Bool.{not}
 use Rattle.adding.proofs.bad_row.Goals as goal
 
-pub loop-row-init : goal.loop-row-init
-loop-row-init c = (omega arith, refl)
-
-pub returns-then-not-adds_up : goal.returns-then-not-adds_up
-returns-then-not-adds_up c =
-    let l = c.loop-row in
-    (rows-bad _ (omega arith) (sym c.adds_up.ensures ∙ not-true _ (ap not c.if-not-adds_up.true)) l.invariant.1, omega arith)
+pub returns-then-not-adds_up-clause-some : goal.returns-then-not-adds_up-clause-some
+returns-then-not-adds_up-clause-some c =
+    (omega arith, rows-bad _ (omega arith) (sym c.adds_up.ensures ∙ c.if-not-adds_up.true) c.loop-row.invariant)
 
 pub loop-row-preserved : goal.loop-row-preserved
-loop-row-preserved c =
-    let l = c.loop-row in
-    (omega arith, rows_more _ (omega arith) (sym c.adds_up.ensures ∙ not-false _ (ap not c.if-not-adds_up.false)) l.invariant.1)
+loop-row-preserved c = rows_more _ (omega arith) (sym c.adds_up.ensures ∙ c.if-not-adds_up.false) c.loop-row.invariant
 
-pub returns : goal.returns
-returns c =
-    let l = c.loop-row in
-    (rows_all _ (omega arith) l.invariant.1, omega arith)
+pub returns-clause-none : goal.returns-clause-none
+returns-clause-none c =
+    let last : c.loop-row.row ≡ 16 = omega arith in
+    sym (rows_all _ last c.loop-row.invariant) ∙ last

@@ -1,20 +1,13 @@
 -- `adding::close` meets its contract: nothing where it has stopped. Assumes nothing.
-use mathlib.Core.Path.{refl}
-use native.Mathlib.Omega.{arith}
-use borrow.Author.Tests.{ne_eqb}
+use mathlib.Core.Path.{refl, sym, ◌∙◌}
 use Rattle.adding.specs.Machine.{closing}
+use Rattle.adding.proofs.Faults.{faultless-some}
 use Rattle.adding.proofs.close.Goals as goal
 
-pub returns-then-at-ne0 : goal.returns-then-at-ne0
+pub returns-then-is_some-clause-put : goal.returns-then-is_some-clause-put
 unfolding closing
-returns-then-at-ne0 c = record {
-  put = rw (ne_eqb _ 0 c.if-at-ne0.true) (record { stored = refl; place = refl });
-  upper_bound = (omega arith, refl);
-}
+returns-then-is_some-clause-put c = rw (sym c.is_some.ensures ∙ c.if-is_some.true) (record { stored = refl; place = refl })
 
-pub returns : goal.returns
+pub returns-clause-put : goal.returns-clause-put
 unfolding closing
-returns c = record {
-  put = rw c.if-at-ne0.false c.put_whole.ensures.put;
-  upper_bound = c.put_whole.ensures.upper_bound;
-}
+returns-clause-put c = rw (faultless-some _ (sym c.is_some.ensures ∙ c.if-is_some.false)) c.put_whole.ensures.put

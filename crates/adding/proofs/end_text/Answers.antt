@@ -1,28 +1,24 @@
 -- `adding::end_text` meets its contract: it has stopped, or a summary has just ended, or not. Assumes nothing.
-use Rattle.adding.proofs.Feeding.{ended-stopped, ended-behind, ended-inside}
-use mathlib.Core.Path.{◌≡◌}
-use native.Mathlib.Omega.{arith}
+use mathlib.Core.Path.{◌≡◌, sym, ◌∙◌}
 use lib.ListN.{length}
 use borrow.Author.Rules.{rules}
+use Rattle.adding.proofs.Faults.{faultless-some}
+use Rattle.adding.proofs.Feeding.{ended-stopped, ended-behind, ended-inside}
 use Rattle.adding.proofs.end_text.Goals as goal
 
-pub returns-then-at-ne0 : goal.returns-then-at-ne0
-returns-then-at-ne0 c =
+pub returns-then-is_some : goal.returns-then-is_some
+returns-then-is_some c =
     let a = c.args.a in
-    ended-stopped a.total a.held a.at c.if-at-ne0.true
+    ended-stopped a.total a.held a.at (sym c.is_some.ensures ∙ c.if-is_some.true)
 
 pub returns-then-at : goal.returns-then-at
 returns-then-at c =
     let a = c.args.a in
-    ended-behind a.total a.held a.at c.if-at-ne0.false c.if-at.true
-
-pub slice_bounds-wrong_line-end : goal.slice_bounds-wrong_line-end
-slice_bounds-wrong_line-end c =
-    let held-size : length c.args.a.held ≡ 4096 = search rules in
-    omega (arith, held-size, c.shorter-size.ensures.0)
+    ended-behind a.total a.held a.at (faultless-some _ (sym c.is_some.ensures ∙ c.if-is_some.false)) c.if-at.true
 
 pub returns : goal.returns
 returns c =
-    let held-size : length c.args.a.held ≡ 4096 = search rules in
     let a = c.args.a in
-    ended-inside a.total a.held a.at c.if-at-ne0.false c.if-at.false held-size c.shorter-size.ensures.1 c.wrong_line-line.ensures c.nothing_held.ensures
+    let held-size : length a.held ≡ 4096 = search rules in
+    ended-inside a.total a.held a.at (faultless-some _ (sym c.is_some.ensures ∙ c.if-is_some.false)) c.if-at.false held-size c.min.ensures
+    c.wrong_line-line.ensures c.nothing_held.ensures

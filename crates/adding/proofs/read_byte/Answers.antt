@@ -1,30 +1,31 @@
 -- `adding::read_byte` meets its contract: a slash, a digit, another byte. Assumes nothing.
-use borrow.Author.Tests.{ne_eqb, leb-true}
-use lib.Dec.{leb}
-use Rattle.adding.specs.Machine.{read}
-use Rattle.adding.proofs.Numbers.{both_l, both_r}
+use mathlib.Core.Path.{◌≡◌, refl, sym, ◌∙◌}
+use mathlib.Core.Bool.{true, false}
+use mathlib.Core.Logic.{⊎_elim}
+use borrow.Author.Tests.{ne_eqb}
+use Rattle.tokens.specs.Tokens.{digit}
+use Rattle.adding.specs.Machine.{behind?, read}
 use Rattle.adding.proofs.read_byte.Goals as goal
 
 pub returns-then-b-eq47 : goal.returns-then-b-eq47
 unfolding read
 returns-then-b-eq47 c = rw c.if-b-eq47.true
 
-pub returns-then-r-eq2 : goal.returns-then-r-eq2
+pub returns-then-not-is_ascii_digit : goal.returns-then-not-is_ascii_digit
 unfolding read
-returns-then-r-eq2 c =
-    rw (ne_eqb _ 47 c.if-b-eq47.false, c.if-b.true, c.if-r-eq2.true)
+returns-then-not-is_ascii_digit c =
+    let other : digit c.args.b ≡ false = sym c.is_ascii_digit.ensures.value ∙ c.if-not-is_ascii_digit.true in
+    rw (ne_eqb _ 47 c.if-b-eq47.false, other)
 
-pub more_value-requires : goal.more_value-requires
-more_value-requires c =
-    let t = c.if-b.true in
-    let b = c.args.b in
-    (leb-true 48 b (both_l (leb 48 b) (leb b 57) t), leb-true b 57 (both_r (leb 48 b) (leb b 57) t))
-
-pub returns-then-b : goal.returns-then-b
+pub returns-in-Behind : goal.returns-in-Behind
 unfolding read
-returns-then-b c =
-    rw (ne_eqb _ 47 c.if-b-eq47.false, c.if-b.true, ne_eqb _ 2 c.if-r-eq2.false, c.more_value.ensures)
+returns-in-Behind c =
+    let here : digit c.args.b ≡ true = sym c.is_ascii_digit.ensures.value ∙ c.if-not-is_ascii_digit.false in
+    rw (ne_eqb _ 47 c.if-b-eq47.false, here, c.in-Behind.is)
 
-pub returns : goal.returns
+pub returns-in-Between : goal.returns-in-Between
 unfolding read
-returns c = rw (ne_eqb _ 47 c.if-b-eq47.false, c.if-b.false)
+returns-in-Between c =
+    let here : digit c.args.b ≡ true = sym c.is_ascii_digit.ensures.value ∙ c.if-not-is_ascii_digit.false in
+    let numbers : behind? c.args.r.mode ≡ false = ⊎_elim (λ e. rw e refl) (λ e. rw e refl) c.in-Between.is in
+    rw (ne_eqb _ 47 c.if-b-eq47.false, here, c.more_value.ensures, numbers)

@@ -1,38 +1,20 @@
 -- `adding::read_figures` meets its contract: one byte more each turn. Assumes nothing.
-use Prim.Native.Nat.{◌-◌, ◌<◌}
 use mathlib.Core.Path.{refl, sym, ap, ◌∙◌}
-use mathlib.Core.Logic.{⊎_elim}
 use native.Mathlib.Omega.{arith}
 use mathlib.Core.Bool.{◌&&◌}
 use lib.Dec.{ltb}
-use borrow.Author.Tests.{ltb-true}
 use Rattle.adding.specs.Machine.{figures_in}
-use Rattle.adding.proofs.Numbers.{both_r, read-stored, read-passed, read_all}
+use Rattle.adding.proofs.Numbers.{read-stored, read-passed, read_all}
 use Rattle.adding.proofs.read_figures.Goals as goal
 use Rattle.adding.proofs.read_figures.Goals.{then-ends_number-n, else-ends_number-n}
 
-pub loop-i-init : goal.loop-i-init
+pub loop-b-init : goal.loop-b-init
 unfolding figures_in
-loop-i-init c = record { within = omega arith; same = refl }
+loop-b-init c = record { within = omega arith; same = refl }
 
-pub offset_bounds-figures-n : goal.offset_bounds-figures-n
-offset_bounds-figures-n c =
-    let room : c.loop-i.n < 83 = ltb-true c.loop-i.n 83 (both_r c.ends_number.result _ c.if-ends_number-n.true) in
-    omega (arith, room)
-
-pub bounds-figures-n : goal.bounds-figures-n
-bounds-figures-n c =
-    let room : c.loop-i.n < 83 = ltb-true c.loop-i.n 83 (both_r c.ends_number.result _ c.if-ends_number-n.true) in
-    room
-
-pub overflow_add-n : goal.overflow_add-n
-overflow_add-n c =
-    let room : c.loop-i.n < 83 = ltb-true c.loop-i.n 83 (both_r c.ends_number.result _ c.if-ends_number-n.true) in
-    omega (arith, room)
-
-pub loop-i-preserved : goal.loop-i-preserved
-loop-i-preserved c =
-    let l = c.loop-i in
+pub loop-b-preserved : goal.loop-b-preserved
+loop-b-preserved c =
+    let l = c.loop-b in
     let text = c.args.text.now in
     let ends = sym (ap (λ t. t && ltb l.n 83) c.ends_number.ensures) in
     elim c.if-ends_number-n.branch [
@@ -41,4 +23,4 @@ loop-i-preserved c =
     ]
 
 pub returns : goal.returns
-returns c = read_all c.args.text.now (omega arith) c.loop-i.invariant
+returns c = read_all c.args.text.now (omega arith) c.loop-b.invariant

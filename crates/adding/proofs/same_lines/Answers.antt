@@ -1,40 +1,26 @@
 -- `adding::same_lines` meets its contract: one byte more each turn. Assumes nothing.
-use Prim.Native.Nat.{◌-◌}
-use native.Mathlib.Omega.{arith}
-use native.Mathlib.Nat.{zero-add}
-use lib.ListN.{get_or}
-use Rattle.adding.proofs.Judging.{end-one, shared-all, shared-short, shared-unlike, shared-more}
+use mathlib.Core.Logic.{inl, inr, ⊎_elim}
+use Rattle.adding.proofs.Judging.{shared-all, shared-unlike, shared-more, shared-on}
 use Rattle.adding.proofs.same_lines.Goals as goal
 
-pub loop-i-init : goal.loop-i-init
-loop-i-init c =
-    record { within = omega arith; few = omega arith; rest = zero-add _ }
+pub returns-then-x-y : goal.returns-then-x-y
+returns-then-x-y c =
+    let steps = c.in-Some.ensures.steps in
+    let s = rw (steps.0, steps.1) at c.loop-x.invariant in
+    shared-unlike _ _ s c.if-x-y.true
 
-pub returns-then-b-i : goal.returns-then-b-i
-returns-then-b-i c =
-    let l = c.loop-i in
-    let a = c.args in
-    shared-short a.a.now a.b.now l.invariant (omega arith)
+pub loop-x-preserved-then-x-eq10 : goal.loop-x-preserved-then-x-eq10
+loop-x-preserved-then-x-eq10 c =
+    let steps = c.in-Some.ensures.steps in
+    let s = rw (steps.0, steps.1) at c.loop-x.invariant in
+    shared-more _ _ s c.if-x-y.false c.if-x-eq10.true
 
-pub returns-then-a-i : goal.returns-then-a-i
-returns-then-a-i c =
-    let l = c.loop-i in
-    let a = c.args in
-    shared-unlike a.a.now a.b.now l.invariant (omega arith) (omega arith) c.if-a-i.true
-
-pub overflow_add-n : goal.overflow_add-n
-overflow_add-n c =
-    let l = c.loop-i in
-    let a = c.args in
-    omega (arith, l.invariant.few, l.invariant.within, end-one (get_or a.a.now l.i 0) c.line_end-n.ensures)
-
-pub loop-i-preserved : goal.loop-i-preserved
-loop-i-preserved c =
-    let l = c.loop-i in
-    let a = c.args in
-    shared-more a.a.now a.b.now l.invariant (omega arith) (omega arith) c.if-a-i.false c.line_end-n.ensures
+pub loop-x-preserved : goal.loop-x-preserved
+loop-x-preserved c =
+    let steps = c.in-Some.ensures.steps in
+    let s = rw (steps.0, steps.1) at c.loop-x.invariant in
+    shared-on _ _ s c.if-x-y.false c.if-x-eq10.false
 
 pub returns : goal.returns
 returns c =
-    let a = c.args in
-    shared-all a.a.now a.b.now c.loop-i.invariant (omega arith)
+    shared-all _ _ c.loop-x.invariant (⊎_elim (λ p. inl p.1.0) (λ p. inr p.1.0) c.in-None.ensures.steps)

