@@ -3,9 +3,10 @@ use Prim.Native.Nat.{ℕ, zero, suc, ◌+◌, ◌-◌, ◌/◌, ◌%◌, ◌≤�
 use mathlib.Core.Path.{◌≡◌, refl, sym, ap, ◌∙◌}
 use mathlib.Core.List.{List, [], ◌∷◌, ◌++◌, append_assoc}
 use native.Mathlib.Omega.{arith}
+use native.Mathlib.Numerals.{add-one}
 use borrow.Rule.Slice.PartMut.{put_mid}
-use lib.ListN.{length, take, drop, set, length-append}
-use lib.Seq.{sets, sets-eq, drop-drop}
+use lib.ListN.{length, take, drop, set, get_or, length-append}
+use lib.Seq.{sets, sets-eq, drop-drop, take-suc, length-take-le}
 use Rattle.lists.proofs.Stores.{sets-append, set-behind}
 use Rattle.text.specs.Text.{decimal, line_text}
 use Rattle.text.specs.Digits.{last_digits, Put}
@@ -71,3 +72,10 @@ bytes-put l bytes copied at h e =
           ∙ sym (append_assoc (take at l) bytes (drop (at + length bytes) l)) ∙ sym (sets-eq bytes l at h);
       place = refl;
     }
+
+-- bytes stored one behind the other
+pub bytes-more : (l bytes : List ℕ) (at i : ℕ) → i < length bytes → set (sets l at (take i bytes)) (at + i) (get_or bytes i 0) ≡ sets l at (take (i + 1) bytes)
+bytes-more l bytes at i h =
+    let size : i ≡ length (take i bytes) = sym (length-take-le i bytes (omega arith)) in
+    ap (λ k. set (sets l at (take i bytes)) (at + k) (get_or bytes i 0)) size ∙ sets-append l at (take i bytes) (get_or bytes i 0 ∷ [])
+    ∙ ap (sets l at) (sym (take-suc bytes i 0 h) ∙ ap (λ k. take k bytes) (sym (add-one i)))

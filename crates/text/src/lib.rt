@@ -40,6 +40,7 @@ pub fn put_bytes(out: &mut [u8], at: usize, bytes: &[u8]) -> usize
     requires { at + length bytes.now ≤ length out.old }
     ensures put { Put out.old at bytes.now out.new result }
     ensures value { result ≡ at + length bytes.now }
+    ensures out_after { out.new ≡ sets out.old at bytes.now }
 {
     let end = at + bytes.len();
     out[at..end].copy_from_slice(bytes);

@@ -4,4 +4,3 @@ use Rattle.sheets.proofs.add.Given as goal
 
 abbrev pub invariant-loop-i : goal.invariant-loop-i
 invariant-loop-i l = Added l.a l.b l.i l.figures l.fit
-

@@ -8,4 +8,3 @@ use Rattle.sheets.proofs.put_rows.Given as goal
 abbrev pub invariant-loop-row : goal.invariant-loop-row
 invariant-loop-row l =
     (l.place ≤ l.at + l.row * 170) × Put l.initial.out l.at (each (range 0 l.row) (row_in l.figures)) l.out l.place
-
