@@ -14,7 +14,7 @@ use Rattle.lists.specs.Lists.{keep, each, range}
 use Rattle.sheets.specs.Sheets.{plus}
 use Rattle.sheets.proofs.Laws.{length-plus, get_or-plus}
 use Rattle.figures.specs.declared.Verdict.{Verdict}
-use Rattle.figures.specs.Figures.{is_of, of, came, waited_in, figures_of, sheet_with}
+use Rattle.figures.specs.Figures.{place_of, is_of, of, came, waited_in, figures_of, sheet_with}
 use Rattle.figures.specs.Rows.{bumped}
 
 -- two tests of equal numbers
@@ -154,33 +154,33 @@ module _ (v : Verdict) where
   unfolding figures_of of keep waited_in came
   one_out p c e = rw e
 
-  one-came : (f : ℕ) → came f (v ∷ []) ≡ cond (eqb v.fate f) 1 0
+  one-came : (f : ℕ) → came f (v ∷ []) ≡ cond (eqb (place_of v.fate) f) 1 0
   unfolding came keep
-  one-came f = go (eqb v.fate f) refl
+  one-came f = go (eqb (place_of v.fate) f) refl
     where
-      go : (b : Bool) → eqb v.fate f ≡ b → length (cond (eqb v.fate f) (v ∷ []) []) ≡ cond (eqb v.fate f) 1 0
+      go : (b : Bool) → eqb (place_of v.fate) f ≡ b → length (cond (eqb (place_of v.fate) f) (v ∷ []) []) ≡ cond (eqb (place_of v.fate) f) 1 0
       go true e = rw e
       go false e = rw e
 
   -- what the k-th counter of its row grows by
   abbrev grows : ℕ → ℕ
-  grows k = cond (eqb k 0) 1 0 + cond (eqb k (1 + v.fate)) 1 0 + cond (eqb k 4) v.waited 0
+  grows k = cond (eqb k 0) 1 0 + cond (eqb k (1 + (place_of v.fate))) 1 0 + cond (eqb k 4) v.waited 0
 
-  one-row : v.fate < 3 → (p c : ℕ) → is_of p c v ≡ true → (k : ℕ) → k < 5 → get_or (figures_of (v ∷ []) p c) k 0 ≡ grows k
+  one-row : (place_of v.fate) < 3 → (p c : ℕ) → is_of p c v ≡ true → (k : ℕ) → k < 5 → get_or (figures_of (v ∷ []) p c) k 0 ≡ grows k
   one-row h p c e k q = ap (λ l. get_or l k 0) (one_in p c e) ∙ go k q
     where
       line : (f k : ℕ) → k ≡ 1 + f → 0 < k → k < 4 → came f (v ∷ []) ≡ grows k
       line f k n a b =
           one-came f
-          ∙ ap (λ t. cond t 1 0) (same_test {a = v.fate} {b = f} {c = k} {d = 1 + v.fate} (λ x. omega arith) (λ x. omega arith))
-          ∙ sym (rw (ne_eqb k 0 (λ x. omega arith), ne_eqb k 4 (λ x. omega arith)) (let y : 0 + cond (eqb k (1 + v.fate)) 1 0 + 0 ≡ cond (eqb k (1 + v.fate)) 1 0 = omega arith in y))
+          ∙ ap (λ t. cond t 1 0) (same_test {a = (place_of v.fate)} {b = f} {c = k} {d = 1 + (place_of v.fate)} (λ x. omega arith) (λ x. omega arith))
+          ∙ sym (rw (ne_eqb k 0 (λ x. omega arith), ne_eqb k 4 (λ x. omega arith)) (let y : 0 + cond (eqb k (1 + (place_of v.fate))) 1 0 + 0 ≡ cond (eqb k (1 + (place_of v.fate))) 1 0 = omega arith in y))
 
       go : (k : ℕ) → k < 5 → get_or (1 ∷ came 0 (v ∷ []) ∷ came 1 (v ∷ []) ∷ came 2 (v ∷ []) ∷ (v.waited + 0) ∷ []) k 0 ≡ grows k
-      go zero b = rw (ne_eqb 0 (1 + v.fate) (λ x. omega arith))
+      go zero b = rw (ne_eqb 0 (1 + (place_of v.fate)) (λ x. omega arith))
       go (suc zero) b = line 0 1 refl (omega arith) (omega arith)
       go (suc (suc zero)) b = line 1 2 refl (omega arith) (omega arith)
       go (suc (suc (suc zero))) b = line 2 3 refl (omega arith) (omega arith)
-      go (suc (suc (suc (suc zero)))) b = rw (ne_eqb 4 (1 + v.fate) (λ x. omega arith)) (omega arith)
+      go (suc (suc (suc (suc zero)))) b = rw (ne_eqb 4 (1 + (place_of v.fate)) (λ x. omega arith)) (omega arith)
       go (suc (suc (suc (suc (suc k))))) b = absurd (omega arith)
 
 -- THE COUNTERS AFTER IT
@@ -192,23 +192,23 @@ module _ (cs : List ℕ) (long : length cs ≡ 83) (v : Verdict) where
   empty-at : (i : ℕ) → i < 80 → is_of (i / 5 / 4) (i / 5 % 4) v ≡ false → get_or alone i 0 ≡ 0
   empty-at i h e = sheet-row (v ∷ []) 0 0 i h ∙ ap (λ l. get_or l (i % 5) 0) (one_out v (i / 5 / 4) (i / 5 % 4) e) ∙ zeros (i % 5)
 
-  foot : (i : ℕ) → i < 3 → get_or alone (80 + i) 0 ≡ cond (eqb i 0) (cond (eqb v.fate 3) 1 0) 0
+  foot : (i : ℕ) → i < 3 → get_or alone (80 + i) 0 ≡ cond (eqb i 0) (cond (eqb (place_of v.fate) 3) 1 0) 0
   foot i h = sheet-foot (v ∷ []) 0 0 i ∙ go i h
     where
-      go : (i : ℕ) → i < 3 → get_or (came 3 (v ∷ []) ∷ 0 ∷ 0 ∷ []) i 0 ≡ cond (eqb i 0) (cond (eqb v.fate 3) 1 0) 0
+      go : (i : ℕ) → i < 3 → get_or (came 3 (v ∷ []) ∷ 0 ∷ 0 ∷ []) i 0 ≡ cond (eqb i 0) (cond (eqb (place_of v.fate) 3) 1 0) 0
       go zero q = one-came v 3
       go (suc zero) q = refl
       go (suc (suc zero)) q = refl
       go (suc (suc (suc i))) q = absurd (omega arith)
 
-  pub count-classless : v.fate ≡ 3 → bumped cs 80 1 ≡ plus cs alone
+  pub count-classless : place_of v.fate ≡ 3 → bumped cs 80 1 ≡ plus cs alone
   count-classless e = grown cs alone (bumped cs 80 1) long (sheet-length (v ∷ []) 0 0) (length-set cs 80 (get_or cs 80 0 + 1) ∙ long) rows_stay line
     where
       out : (p c : ℕ) → p < 4 → is_of p c v ≡ false
       out p c h = go (eqb v.planner p) (eqb v.class c)
         where
-          go : (x y : Bool) → (x && y && ltb v.fate 3) ≡ false
-          go x y = rw (le-ltb v.fate 3 (omega arith)) (both x y)
+          go : (x y : Bool) → (x && y && ltb (place_of v.fate) 3) ≡ false
+          go x y = rw (le-ltb (place_of v.fate) 3 (omega arith)) (both x y)
             where
               both : (x y : Bool) → (x && y && false) ≡ false
               both true true = refl
@@ -223,11 +223,11 @@ module _ (cs : List ℕ) (long : length cs ≡ 83) (v : Verdict) where
       line i h =
           bumped-at cs 80 1 (80 + i) (omega arith)
           ∙ ap (λ n. get_or cs (80 + i) 0 + n)
-          (ap (λ t. cond t 1 0) (same_test {a = 80 + i} {b = 80} {c = i} {d = 0} (λ x. omega arith) (λ x. omega arith)) ∙ sym (foot i h ∙ rw (eq-eqb v.fate 3 e)))
+          (ap (λ t. cond t 1 0) (same_test {a = 80 + i} {b = 80} {c = i} {d = 0} (λ x. omega arith) (λ x. omega arith)) ∙ sym (foot i h ∙ rw (eq-eqb (place_of v.fate) 3 e)))
 
-  module _ (f : v.fate < 3) where
+  module _ (f : place_of v.fate < 3) where
     foot-stays : (i : ℕ) → i < 3 → get_or alone (80 + i) 0 ≡ 0
-    foot-stays i h = foot i h ∙ rw (ne_eqb v.fate 3 (λ x. omega arith)) (go (eqb i 0))
+    foot-stays i h = foot i h ∙ rw (ne_eqb (place_of v.fate) 3 (λ x. omega arith)) (go (eqb i 0))
       where
         go : (b : Bool) → ◌≡◌ {A = ℕ} (cond b 0 0) 0
         go true = refl
@@ -250,28 +250,28 @@ module _ (cs : List ℕ) (long : length cs ≡ 83) (v : Verdict) where
       first = bumped cs at 1
 
       abbrev second : List ℕ
-      second = bumped first (at + 1 + v.fate) 1
+      second = bumped first (at + 1 + (place_of v.fate)) 1
 
       first-length : length first ≡ 83
       first-length = length-set cs at (get_or cs at 0 + 1) ∙ long
 
       second-length : length second ≡ 83
-      second-length = length-set first (at + 1 + v.fate) (get_or first (at + 1 + v.fate) 0 + 1) ∙ first-length
+      second-length = length-set first (at + 1 + (place_of v.fate)) (get_or first (at + 1 + (place_of v.fate)) 0 + 1) ∙ first-length
 
       third : (i : ℕ) → get_or (bumped second (at + 4) v.waited) i 0
-          ≡ get_or cs i 0 + cond (eqb i at) 1 0 + cond (eqb i (at + 1 + v.fate)) 1 0 + cond (eqb i (at + 4)) v.waited 0
+          ≡ get_or cs i 0 + cond (eqb i at) 1 0 + cond (eqb i (at + 1 + (place_of v.fate))) 1 0 + cond (eqb i (at + 4)) v.waited 0
       third i =
           bumped-at second (at + 4) v.waited i (omega (arith, second-length))
           ∙ ap (λ n. n + cond (eqb i (at + 4)) v.waited 0)
-          (bumped-at first (at + 1 + v.fate) 1 i (omega (arith, first-length)) ∙ ap (λ n. n + cond (eqb i (at + 1 + v.fate)) 1 0) (bumped-at cs at 1 i (omega (arith, long))))
+          (bumped-at first (at + 1 + (place_of v.fate)) 1 i (omega (arith, first-length)) ∙ ap (λ n. n + cond (eqb i (at + 1 + (place_of v.fate))) 1 0) (bumped-at cs at 1 i (omega (arith, long))))
 
       -- what the i-th counter grows by
       abbrev more : ℕ → ℕ
-      more i = cond (eqb i at) 1 0 + cond (eqb i (at + 1 + v.fate)) 1 0 + cond (eqb i (at + 4)) v.waited 0
+      more i = cond (eqb i at) 1 0 + cond (eqb i (at + 1 + (place_of v.fate))) 1 0 + cond (eqb i (at + 4)) v.waited 0
 
       out-row : (i : ℕ) → i < 80 → is_of (i / 5 / 4) (i / 5 % 4) v ≡ false → (i < at) ⊎ (at + 4 < i) → more i ≡ get_or alone i 0
-      out-row i q e (inl x) = rw (ne_eqb i at (λ z. omega arith), ne_eqb i (at + 1 + v.fate) (λ z. omega arith), ne_eqb i (at + 4) (λ z. omega arith)) (sym (empty-at i q e))
-      out-row i q e (inr x) = rw (ne_eqb i at (λ z. omega arith), ne_eqb i (at + 1 + v.fate) (λ z. omega arith), ne_eqb i (at + 4) (λ z. omega arith)) (sym (empty-at i q e))
+      out-row i q e (inl x) = rw (ne_eqb i at (λ z. omega arith), ne_eqb i (at + 1 + (place_of v.fate)) (λ z. omega arith), ne_eqb i (at + 4) (λ z. omega arith)) (sym (empty-at i q e))
+      out-row i q e (inr x) = rw (ne_eqb i at (λ z. omega arith), ne_eqb i (at + 1 + (place_of v.fate)) (λ z. omega arith), ne_eqb i (at + 4) (λ z. omega arith)) (sym (empty-at i q e))
 
       apart : (i : ℕ) → i < 80 → ((i / 5 / 4 ≡ v.planner) × (i / 5 % 4 ≡ v.class) → ⊥) → (i < at) ⊎ (at + 4 < i)
       apart i q n = go (dec_lt i at) (dec_lt (at + 4) i)
@@ -286,21 +286,21 @@ module _ (cs : List ℕ) (long : length cs ≡ 83) (v : Verdict) where
           ap₂ (λ x y. x + y)
           (ap₂ (λ x y. x + y)
           (ap (λ t. cond t 1 0) (same_test {a = i} {b = at} {c = i % 5} {d = 0} (λ x. omega arith) (λ x. omega arith)))
-          (ap (λ t. cond t 1 0) (same_test {a = i} {b = at + 1 + v.fate} {c = i % 5} {d = 1 + v.fate} (λ x. omega arith) (λ x. omega arith))))
+          (ap (λ t. cond t 1 0) (same_test {a = i} {b = at + 1 + (place_of v.fate)} {c = i % 5} {d = 1 + (place_of v.fate)} (λ x. omega arith) (λ x. omega arith))))
           (ap (λ t. cond t v.waited 0) (same_test {a = i} {b = at + 4} {c = i % 5} {d = 4} (λ x. omega arith) (λ x. omega arith)))
           ∙ sym (sheet-row (v ∷ []) 0 0 i q ∙ one-row v f (i / 5 / 4) (i / 5 % 4) here (i % 5) (omega arith))
         where
           here : is_of (i / 5 / 4) (i / 5 % 4) v ≡ true
-          here = rw (eq-eqb v.planner (i / 5 / 4) (sym p), eq-eqb v.class (i / 5 % 4) (sym k), lt-ltb v.fate 3 f)
+          here = rw (eq-eqb v.planner (i / 5 / 4) (sym p), eq-eqb v.class (i / 5 % 4) (sym k), lt-ltb (place_of v.fate) 3 f)
       in_row i q (yes p) (no k) = out-row i q (rw (eq-eqb v.planner (i / 5 / 4) (sym p), ne_eqb v.class (i / 5 % 4) (λ x. k (sym x)))) (apart i q (λ x. k x.1))
       in_row i q (no p) k = out-row i q (rw (ne_eqb v.planner (i / 5 / 4) (λ x. p (sym x)))) (apart i q (λ x. p x.0))
 
       pub count-in : bumped second (at + 4) v.waited ≡ plus cs alone
       count-in =
           grown cs alone (bumped second (at + 4) v.waited) long (sheet-length (v ∷ []) 0 0) (length-set second (at + 4) (get_or second (at + 4) 0 + v.waited) ∙ second-length)
-          (λ i q. third i ∙ (let y : get_or cs i 0 + cond (eqb i at) 1 0 + cond (eqb i (at + 1 + v.fate)) 1 0 + cond (eqb i (at + 4)) v.waited 0 ≡ get_or cs i 0 + more i = omega arith in y)
+          (λ i q. third i ∙ (let y : get_or cs i 0 + cond (eqb i at) 1 0 + cond (eqb i (at + 1 + (place_of v.fate))) 1 0 + cond (eqb i (at + 4)) v.waited 0 ≡ get_or cs i 0 + more i = omega arith in y)
           ∙ ap (λ n. get_or cs i 0 + n) (in_row i q (dec_eq (i / 5 / 4) v.planner) (dec_eq (i / 5 % 4) v.class)))
-          (λ i q. third (80 + i) ∙ rw (ne_eqb (80 + i) at (λ z. omega arith), ne_eqb (80 + i) (at + 1 + v.fate) (λ z. omega arith), ne_eqb (80 + i) (at + 4) (λ z. omega arith))
+          (λ i q. third (80 + i) ∙ rw (ne_eqb (80 + i) at (λ z. omega arith), ne_eqb (80 + i) (at + 1 + (place_of v.fate)) (λ z. omega arith), ne_eqb (80 + i) (at + 4) (λ z. omega arith))
           (omega (arith, foot-stays i q)))
 
 -- no counter grows by more than that

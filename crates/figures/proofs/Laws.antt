@@ -22,7 +22,7 @@ use Rattle.sheets.specs.Sheets.{plus}
 use Rattle.events.specs.declared.Event.{Event}
 use Rattle.events.specs.declared.Event.TheVariants.{NewBoard, Submit, Clock, Withdraw, GridBoard}
 use Rattle.figures.specs.declared.Verdict.{Verdict}
-use Rattle.figures.specs.Figures.{Trial, fate_of, verdict_of, verdicts, is_of, of, came, waited_in, figures_of, sheet_with, sheet_of}
+use Rattle.figures.specs.Figures.{Trial, place_of, fate_of, verdict_of, verdicts, is_of, of, came, waited_in, figures_of, sheet_with, sheet_of}
 use Rattle.figures.proofs.Counting.{row-length, sheet-row, sheet-foot, sheet-length}
 
 -- of one planner and class
@@ -32,7 +32,7 @@ of-append p c vs ws = keep_append (is_of p c) vs ws
 
 came-append : (f : ℕ) (vs ws : List Verdict) → came f (vs ++ ws) ≡ came f vs + came f ws
 unfolding came
-came-append f vs ws = ap length (keep_append (λ v. eqb v.fate f) vs ws) ∙ length-append (keep (λ v. eqb v.fate f) vs) (keep (λ v. eqb v.fate f) ws)
+came-append f vs ws = ap length (keep_append (λ v. eqb (place_of v.fate) f) vs ws) ∙ length-append (keep (λ v. eqb (place_of v.fate) f) vs) (keep (λ v. eqb (place_of v.fate) f) ws)
 
 waited-append : (vs ws : List Verdict) → waited_in (vs ++ ws) ≡ waited_in vs + waited_in ws
 unfolding waited_in
@@ -129,9 +129,9 @@ module _ (m : ℕ) (one : 1 ≤ m) (vs : List Verdict) (slow : (v : Verdict) →
   row-most : (p c k : ℕ) → get_or (figures_of vs p c) k 0 ≤ length vs * m
   unfolding figures_of of came
   row-most p c zero = at_most (length (of p c vs)) (few-kept (is_of p c) vs)
-  row-most p c (suc zero) = at_most (came 0 (of p c vs)) (le_trans (few-kept (λ v. eqb v.fate 0) (of p c vs)) (few-kept (is_of p c) vs))
-  row-most p c (suc (suc zero)) = at_most (came 1 (of p c vs)) (le_trans (few-kept (λ v. eqb v.fate 1) (of p c vs)) (few-kept (is_of p c) vs))
-  row-most p c (suc (suc (suc zero))) = at_most (came 2 (of p c vs)) (le_trans (few-kept (λ v. eqb v.fate 2) (of p c vs)) (few-kept (is_of p c) vs))
+  row-most p c (suc zero) = at_most (came 0 (of p c vs)) (le_trans (few-kept (λ v. eqb (place_of v.fate) 0) (of p c vs)) (few-kept (is_of p c) vs))
+  row-most p c (suc (suc zero)) = at_most (came 1 (of p c vs)) (le_trans (few-kept (λ v. eqb (place_of v.fate) 1) (of p c vs)) (few-kept (is_of p c) vs))
+  row-most p c (suc (suc (suc zero))) = at_most (came 2 (of p c vs)) (le_trans (few-kept (λ v. eqb (place_of v.fate) 2) (of p c vs)) (few-kept (is_of p c) vs))
   row-most p c (suc (suc (suc (suc zero)))) =
       le_trans (waited-most m (of p c vs) (λ v q. slow v (keep-in (is_of p c) vs q).0)) (mul-le-mul_right m (few-kept (is_of p c) vs))
   row-most p c (suc (suc (suc (suc (suc k))))) = omega arith
@@ -141,7 +141,7 @@ module _ (m : ℕ) (one : 1 ≤ m) (vs : List Verdict) (slow : (v : Verdict) →
   sheet-most a b i = go (dec_lt i 80)
     where
       foot : (k : ℕ) → get_or (came 3 vs ∷ a ∷ b ∷ []) k 0 ≤ length vs * m + a + b
-      foot zero = let y = at_most (came 3 vs) (few-kept (λ v. eqb v.fate 3) vs) in omega (arith, y)
+      foot zero = let y = at_most (came 3 vs) (few-kept (λ v. eqb (place_of v.fate) 3) vs) in omega (arith, y)
       foot (suc zero) = omega arith
       foot (suc (suc zero)) = omega arith
       foot (suc (suc (suc k))) = omega arith

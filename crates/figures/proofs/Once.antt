@@ -30,16 +30,16 @@ use Rattle.events.specs.Records.{submission_of}
 use Rattle.steps.specs.declared.State.{State}
 use Rattle.session.specs.Recording.{outcome}
 use Rattle.figures.specs.declared.Verdict.{Verdict}
-use Rattle.figures.specs.Figures.{Trial, trials_from, fate_of, verdict_of, verdicts, is_of, of, came, figures_of, sheet_of}
+use Rattle.figures.specs.Figures.{Trial, trials_from, place_of, fate_of, verdict_of, verdicts, is_of, of, came, figures_of, sheet_of}
 use Rattle.figures.proofs.Counting.{sheet-row, sheet-foot}
 use Rattle.figures.proofs.Tallying.{class-few, fate-few}
 
 -- one more
-came-more : (f : ℕ) (v : Verdict) (vs : List Verdict) → came f (v ∷ vs) ≡ cond (eqb v.fate f) 1 0 + came f vs
+came-more : (f : ℕ) (v : Verdict) (vs : List Verdict) → came f (v ∷ vs) ≡ cond (eqb (place_of v.fate) f) 1 0 + came f vs
 unfolding came keep
-came-more f v vs = go (eqb v.fate f)
+came-more f v vs = go (eqb (place_of v.fate) f)
   where
-    go : (t : Bool) → length (cond t (v ∷ keep (λ u. eqb u.fate f) vs) (keep (λ u. eqb u.fate f) vs)) ≡ cond t 1 0 + length (keep (λ u. eqb u.fate f) vs)
+    go : (t : Bool) → length (cond t (v ∷ keep (λ u. eqb (place_of u.fate) f) vs) (keep (λ u. eqb (place_of u.fate) f) vs)) ≡ cond t 1 0 + length (keep (λ u. eqb (place_of u.fate) f) vs)
     go true = omega arith
     go false = omega arith
 
@@ -52,14 +52,14 @@ of-more p c v vs = go (is_of p c v)
     go false = omega arith
 
 -- A ROW ADDS UP
-three-fates : (vs : List Verdict) → ((v : Verdict) → v ∈ vs → v.fate < 3) → length vs ≡ came 0 vs + came 1 vs + came 2 vs
+three-fates : (vs : List Verdict) → ((v : Verdict) → v ∈ vs → (place_of v.fate) < 3) → length vs ≡ came 0 vs + came 1 vs + came 2 vs
 three-fates [] h = unfold came keep in refl
-three-fates (v ∷ vs) h = go v.fate refl (h v (here refl)) (three-fates vs (λ u q. h u (there q)))
+three-fates (v ∷ vs) h = go (place_of v.fate) refl (h v (here refl)) (three-fates vs (λ u q. h u (there q)))
   where
-    counts : {n : ℕ} (f m : ℕ) → v.fate ≡ n → cond (eqb n f) 1 0 ≡ m → came f (v ∷ vs) ≡ m + came f vs
+    counts : {n : ℕ} (f m : ℕ) → (place_of v.fate) ≡ n → cond (eqb n f) 1 0 ≡ m → came f (v ∷ vs) ≡ m + came f vs
     counts f m e q = came-more f v vs ∙ ap (λ k. k + came f vs) (ap (λ k. cond (eqb k f) 1 0) e ∙ q)
 
-    go : (n : ℕ) → v.fate ≡ n → n < 3 → length vs ≡ came 0 vs + came 1 vs + came 2 vs → suc (length vs) ≡ came 0 (v ∷ vs) + came 1 (v ∷ vs) + came 2 (v ∷ vs)
+    go : (n : ℕ) → (place_of v.fate) ≡ n → n < 3 → length vs ≡ came 0 vs + came 1 vs + came 2 vs → suc (length vs) ≡ came 0 (v ∷ vs) + came 1 (v ∷ vs) + came 2 (v ∷ vs)
     go zero e l more = omega (arith, more, counts 0 1 e refl, counts 1 0 e refl, counts 2 0 e refl)
     go (suc zero) e l more = omega (arith, more, counts 0 0 e refl, counts 1 1 e refl, counts 2 0 e refl)
     go (suc (suc zero)) e l more = omega (arith, more, counts 0 0 e refl, counts 1 0 e refl, counts 2 1 e refl)
@@ -67,7 +67,7 @@ three-fates (v ∷ vs) h = go v.fate refl (h v (here refl)) (three-fates vs (λ 
 
 of-told : (p c : ℕ) (vs : List Verdict) → length (of p c vs) ≡ came 0 (of p c vs) + came 1 (of p c vs) + came 2 (of p c vs)
 unfolding of
-of-told p c vs = three-fates (keep (is_of p c) vs) (λ v q. ltb→lt v.fate 3 (and_r (eqb v.planner p && eqb v.class c) (ltb v.fate 3) (keep-in (is_of p c) vs q).1))
+of-told p c vs = three-fates (keep (is_of p c) vs) (λ v q. ltb→lt (place_of v.fate) 3 (and_r (eqb v.planner p && eqb v.class c) (ltb (place_of v.fate) 3) (keep-in (is_of p c) vs q).1))
 
 -- OF EACH PLANNER AND CLASS taken + rejected + refused is submitted
 pub row_told : (files : ℕ) (ts : List Trial) (r : ℕ) → r < 16
@@ -146,16 +146,16 @@ no_row false b = refl
 -- a verdict as submissions have it: a class and a line of four, and a known planner where it is classed
 pub record Classed (v : Verdict) : Type 0 where
   pub class : v.class < 4
-  pub fate : v.fate < 4
-  pub planner : v.fate < 3 → v.planner < 4
+  pub fate : (place_of v.fate) < 4
+  pub planner : (place_of v.fate) < 3 → v.planner < 4
 
-one_line : (v : Verdict) → Classed v → over (range 0 16) (λ r. cond (is_of (r / 4) (r % 4) v) 1 0) + cond (eqb v.fate 3) 1 0 ≡ 1
-one_line v o = go (dec_lt v.fate 3)
+one_line : (v : Verdict) → Classed v → over (range 0 16) (λ r. cond (is_of (r / 4) (r % 4) v) 1 0) + cond (eqb (place_of v.fate) 3) 1 0 ≡ 1
+one_line v o = go (dec_lt (place_of v.fate) 3)
   where
-    go : Dec (v.fate < 3) → over (range 0 16) (λ r. cond (is_of (r / 4) (r % 4) v) 1 0) + cond (eqb v.fate 3) 1 0 ≡ 1
-    go (yes h) = rw (lt-ltb v.fate 3 h, ne_eqb v.fate 3 (λ e. omega (arith, h, e))) (omega (arith, one-row v.planner v.class (o.planner h) o.class))
+    go : Dec ((place_of v.fate) < 3) → over (range 0 16) (λ r. cond (is_of (r / 4) (r % 4) v) 1 0) + cond (eqb (place_of v.fate) 3) 1 0 ≡ 1
+    go (yes h) = rw (lt-ltb (place_of v.fate) 3 h, ne_eqb (place_of v.fate) 3 (λ e. omega (arith, h, e))) (omega (arith, one-row v.planner v.class (o.planner h) o.class))
     go (no h) =
-        rw (le-ltb v.fate 3 (omega (arith, h)), eq-eqb v.fate 3 (omega (arith, h, o.fate)))
+        rw (le-ltb (place_of v.fate) 3 (omega (arith, h)), eq-eqb (place_of v.fate) 3 (omega (arith, h, o.fate)))
         (omega (arith, over_none _ (λ r. no_row (eqb v.planner (r / 4)) (eqb v.class (r % 4))) (range 0 16)))
 
 all_lines : (vs : List Verdict) → ((v : Verdict) → v ∈ vs → Classed v) → over (range 0 16) (λ r. length (of (r / 4) (r % 4) vs)) + came 3 vs ≡ length vs
@@ -182,7 +182,7 @@ refused-number : (b : Board) (n : ℕ) (a : Submission) (k : ℕ) → refused_su
 unfolding submitted or_refused told
 refused-number b n a k e = rw e refl
 
-classed-planner : (s : State) (n : ℕ) (a : Ask) → fate_of (outcome s (Submit n a)).answer.number < 3 → n < 4
+classed-planner : (s : State) (n : ℕ) (a : Ask) → place_of (fate_of (outcome s (Submit n a)).answer.number) < 3 → n < 4
 unfolding outcome
 classed-planner s n a h = go (dec_lt n 4)
   where
@@ -190,8 +190,8 @@ classed-planner s n a h = go (dec_lt n 4)
     number = (told (submitted s.board n (submission_of a)).answer).number
 
     strange : (refused_submit s.board n (submission_of a) ≡ 1) ⊎ (refused_submit s.board n (submission_of a) ≡ 3) → n < 4
-    strange (inl e) = absurd (let y : fate_of number ≡ 3 = ap fate_of (refused-number s.board n (submission_of a) 0 e) in omega (arith, h, y))
-    strange (inr e) = absurd (let y : fate_of number ≡ 3 = ap fate_of (refused-number s.board n (submission_of a) 2 e) in omega (arith, h, y))
+    strange (inl e) = absurd (let y : place_of (fate_of number) ≡ 3 = unfold place_of in ap (λ m. place_of (fate_of m)) (refused-number s.board n (submission_of a) 0 e) in omega (arith, h, y))
+    strange (inr e) = absurd (let y : place_of (fate_of number) ≡ 3 = unfold place_of in ap (λ m. place_of (fate_of m)) (refused-number s.board n (submission_of a) 2 e) in omega (arith, h, y))
 
     go : Dec (n < 4) → n < 4
     go (yes q) = q
@@ -216,7 +216,7 @@ event-classed s (Submit n a) v q = pick (cases q)
 
     pick : (v ≡ this) ⊎ (v ∈ []) → Classed v
     pick (inl e) = subst Classed (sym e)
-        (record { class = class-few (laxity s.board.now a.e a.d); fate = fate-few (outcome s (Submit n a)).answer.number; planner = classed-planner s n a })
+        (record { class = class-few (laxity s.board.now a.e a.d); fate = fate-few (fate_of (outcome s (Submit n a)).answer.number); planner = classed-planner s n a })
     pick (inr m) = absurd (nowhere m)
 
 all-classed : (s : State) (es : List Event) (v : Verdict) → v ∈ verdicts (trials_from s es) → Classed v

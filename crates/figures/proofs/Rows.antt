@@ -1,6 +1,6 @@
 -- Line by line: what the loop of `figures::count_rows` has counted, and what is left. Assumes nothing.
 use Prim.Native.Nat.{ℕ, suc, ◌+◌, ◌-◌, ◌*◌, ◌≤◌, ◌<◌}
-use mathlib.Core.Path.{◌≡◌, refl, sym, ap, ap₂, ◌∙◌}
+use mathlib.Core.Path.{◌≡◌, refl, sym, ap, ap₂, ◌∙◌, subst}
 use mathlib.Core.List.{List, [], ◌∷◌, ◌++◌, append-nil, append_assoc}
 use mathlib.Core.List.Memᴰ.{cases_cons as cases}
 use mathlib.Core.List.Memᴰ.{not-nil as nowhere}
@@ -11,12 +11,13 @@ use lib.Seq.{drop-drop, get_or-drop}
 use Rattle.lists.specs.Lists.{◌∈◌}
 use Rattle.sheets.specs.Sheets.{plus}
 use Rattle.sheets.proofs.Laws.{get_or-plus}
-use Rattle.events.specs.declared.Reading.{Reading}
-use Rattle.events.specs.declared.Reading.TheVariants.{End, Got, CutShort, Unknown}
-use Rattle.events.specs.Records.{read_from}
+use Rattle.std.specs.Prelude.{Ok, Err, Some, None}
+use Rattle.events.specs.Records.{Reading, read_from}
 use Rattle.events.proofs.Calls.{taken-there}
-use Rattle.figures.specs.Figures.{Trial, sheet_of}
-use Rattle.figures.specs.Rows.{Roomy, trial_read, clock_read, size_read, trials_in}
+use Rattle.events.specs.declared.Event.{Event}
+use Rattle.figures.specs.Figures.{Trial, verdict_of, sheet_with, sheet_of}
+use Rattle.figures.specs.Rows.{Roomy, clock_after, trial_read, clock_read, size_read, trials_in}
+use Rattle.figures.proofs.Tallying.{reads-one, reads_none}
 use Rattle.figures.proofs.Laws.{figures-add, figures-length, figures-most}
 
 -- a record is there as a whole
@@ -24,18 +25,16 @@ size-there : (l : List ℕ) → size_read (read_from l) ≤ length l
 size-there l = go (read_from l) refl
   where
     go : (r : Reading) → read_from l ≡ r → size_read r ≤ length l
-    go End e = unfold size_read in omega arith
-    go (Got v n) e = let h = (taken-there l v n e).1 in unfold size_read in h
-    go (CutShort k) e = unfold size_read in omega arith
-    go (Unknown k) e = unfold size_read in omega arith
+    go (Ok None) e = unfold size_read in omega arith
+    go (Ok (Some (v, n))) e = let h = (taken-there l v n e).1 in unfold size_read in h
+    go (Err d) e = unfold size_read in omega arith
 
 -- one record adds no more than its start to a figure
 one-most : (now : ℕ) (r : Reading) (answer start i : ℕ) → start ≤ 4294967295 → get_or (sheet_of 0 (trial_read now r answer start)) i 0 ≤ 4294967296
 unfolding trial_read
-one-most now End answer start i h = omega (arith, figures-most 1 (omega arith) 0 [] (λ t q. absurd (nowhere q)) i)
-one-most now (CutShort k) answer start i h = omega (arith, figures-most 1 (omega arith) 0 [] (λ t q. absurd (nowhere q)) i)
-one-most now (Unknown k) answer start i h = omega (arith, figures-most 1 (omega arith) 0 [] (λ t q. absurd (nowhere q)) i)
-one-most now (Got v n) answer start i h = omega (arith, figures-most 4294967295 (omega arith) 0 (t ∷ []) (λ u q. pick u (cases q)) i)
+one-most now (Ok None) answer start i h = omega (arith, figures-most 1 (omega arith) 0 [] (λ t q. absurd (nowhere q)) i)
+one-most now (Err e) answer start i h = omega (arith, figures-most 1 (omega arith) 0 [] (λ t q. absurd (nowhere q)) i)
+one-most now (Ok (Some (v, n))) answer start i h = omega (arith, figures-most 4294967295 (omega arith) 0 (t ∷ []) (λ u q. pick u (cases q)) i)
   where
     t : Trial
     t = record { now = now; event = v; answer = answer; start = start }
@@ -118,6 +117,37 @@ module _ {count clock : ℕ} {numbers bytes figures : List ℕ} {then at i : ℕ
           ∙ ap₂ (trials_in (count - (i + 1)) later)
           (drop-drop 6 (i * 6) numbers ∙ ap (λ m. drop m numbers) (let y : i * 6 + 6 ≡ (i + 1) * 6 = omega arith in y))
           (drop-drop (size_read next) at bytes ∙ ap (λ m. drop (at + m) bytes) (sym z))
+
+  -- AN EVENT MORE
+  pub rows_event : i < count → {v : Event} {size later : ℕ} {after : List ℕ} → let answer = get_or numbers (i * 6 + 2) 0 in let start = get_or numbers (i * 6 + 4) 0 in
+      start ≤ 4294967295 → read_from (drop at bytes) ≡ Ok (Some (v, size)) → later ≡ clock_after then v answer
+      → after ≡ plus figures (sheet_with (verdict_of then v answer start) 1 0) → Counted count clock numbers bytes after later (at + size) (i + 1)
+  unfolding size_read clock_read
+  rows_event h {v} {size} f r l e =
+      let answer = get_or numbers (i * 6 + 2) 0 in
+      let start = get_or numbers (i * 6 + 4) 0 in
+      rows_more h refl refl f (ap size_read (sym r)) (l ∙ ap (λ x. clock_read then x answer) (sym r))
+      (reads-one figures then v size answer start e ∙ ap (λ x. plus figures (sheet_of 0 (trial_read then x answer start))) (sym r))
+
+  -- a line without one
+  pub rows_none : i < count → get_or numbers (i * 6 + 4) 0 ≤ 4294967295 → ((v : Event) (size : ℕ) → read_from (drop at bytes) ≡ Ok (Some (v, size)) → ⊥)
+      → Counted count clock numbers bytes figures then at (i + 1)
+  unfolding size_read clock_read trial_read
+  rows_none h f n = go (read_from (drop at bytes)) refl
+    where
+      none : (r : Reading) → read_from (drop at bytes) ≡ r → 0 ≡ size_read r → then ≡ clock_read then r (get_or numbers (i * 6 + 2) 0)
+          → trial_read then r (get_or numbers (i * 6 + 2) 0) (get_or numbers (i * 6 + 4) 0) ≡ [] → Counted count clock numbers bytes figures then at (i + 1)
+      none r e z l t =
+          let same : at + 0 ≡ at = omega arith in
+          subst (λ a. Counted count clock numbers bytes figures then a (i + 1)) same
+          (rows_more h refl refl f (z ∙ ap size_read (sym e)) (l ∙ ap (λ x. clock_read then x (get_or numbers (i * 6 + 2) 0)) (sym e))
+          (reads_none figures (ap length o.sums ∙ figures-length 0 o.done)
+          ∙ ap (λ x. plus figures (sheet_of 0 x)) (sym t ∙ ap (λ x. trial_read then x (get_or numbers (i * 6 + 2) 0) (get_or numbers (i * 6 + 4) 0)) (sym e))))
+
+      go : (r : Reading) → read_from (drop at bytes) ≡ r → Counted count clock numbers bytes figures then at (i + 1)
+      go (Ok None) e = none (Ok None) e refl refl refl
+      go (Ok (Some (v, size))) e = absurd (n v size e)
+      go (Err d) e = none (Err d) e refl refl refl
 
   pub rows_end : count ≤ i → figures ≡ sheet_of 0 (trials_in count clock numbers bytes)
   rows_end h = o.sums ∙ ap (sheet_of 0) (sym (o.whole ∙ ap (λ x. o.done ++ x) none_left ∙ append-nil o.done))

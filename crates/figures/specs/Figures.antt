@@ -7,6 +7,8 @@ use Rattle.events.specs.declared.Event.{Event}
 use Rattle.events.specs.declared.Event.TheVariants.{NewBoard, Submit, Clock, Withdraw, GridBoard}
 use Rattle.steps.specs.declared.State.{State}
 use Rattle.session.specs.Recording.{outcome}
+use Rattle.figures.specs.declared.Fate.{Fate}
+use Rattle.figures.specs.declared.Fate.TheVariants.{Taken, Rejected, Refused, Classless}
 use Rattle.figures.specs.declared.Verdict.{Verdict}
 
 -- an event, now before it, its answer, and the start where that is 0
@@ -23,10 +25,17 @@ trials_from s (v ∷ vs) =
     let o = outcome s v in
     record { now = s.board.now; event = v; answer = o.answer.number; start = o.answer.start } ∷ trials_from o.state vs
 
--- THE ONE MAP from an answer's number to a line of the summary: "taken, rejected and refused" are 0 to 2;
--- "A submission refused with 1 or 3 to 8 is counted in one refused line without class": 3; Q-2: one refused with 18 "is a refused one"
-abbrev pub fate_of : ℕ → ℕ
-fate_of n = cond (eqb n 0) 0 (cond (eqb n 10) 1 (cond (eqb n 9 || eqb n 18) 2 3))
+-- THE ONE MAP from an answer's number to a line of the summary: "taken, rejected and refused" are lines of its planner and class;
+-- "A submission refused with 1 or 3 to 8 is counted in one refused line without class"; Q-2: one refused with 18 "is a refused one"
+abbrev pub fate_of : ℕ → Fate
+fate_of n = cond (eqb n 0) Taken (cond (eqb n 10) Rejected (cond (eqb n 9 || eqb n 18) Refused Classless))
+
+-- where a line stands among them
+unfoldable pub place_of : Fate → ℕ
+place_of Taken = 0
+place_of Rejected = 1
+place_of Refused = 2
+place_of Classless = 3
 
 -- what came of an event, where it is a submission; "ticks waited (start less arrival)"
 unfoldable pub verdict_of : ℕ → Event → ℕ → ℕ → List Verdict
@@ -42,14 +51,14 @@ verdicts ts = each ts (λ t. verdict_of t.now t.event t.answer t.start)
 
 -- "for each planner and laxity class": those of a planner and class
 abbrev pub is_of : ℕ → ℕ → Verdict → Bool
-is_of p c v = eqb v.planner p && eqb v.class c && ltb v.fate 3
+is_of p c v = eqb v.planner p && eqb v.class c && ltb (place_of v.fate) 3
 
 unfoldable pub of : ℕ → ℕ → List Verdict → List Verdict
 of p c vs = keep (is_of p c) vs
 
 -- those that came to a line
 unfoldable pub came : ℕ → List Verdict → ℕ
-came fate vs = length (keep (λ v. eqb v.fate fate) vs)
+came fate vs = length (keep (λ v. eqb (place_of v.fate) fate) vs)
 
 -- "the exact sum of ticks waited"
 unfoldable pub waited_in : List Verdict → ℕ

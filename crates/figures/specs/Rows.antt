@@ -1,11 +1,9 @@
 -- Events with their answers in lines of six numbers, as code reads them: code-level definitions; no promise of a public call cites them. Assumes nothing.
-use Rattle.std.specs.Prelude.{ℕ, zero, suc, ◌+◌, ◌≤◌, ◌≡◌, cond, List, [], ◌∷◌, ◌++◌, eqb, length, get_or, drop, set}
+use Rattle.std.specs.Prelude.{ℕ, zero, suc, ◌+◌, ◌≤◌, ◌≡◌, cond, List, [], ◌∷◌, ◌++◌, eqb, length, get_or, drop, set, Ok, Err, Some, None}
 use Rattle.sheets.specs.Sheets.{sheet_size}
 use Rattle.events.specs.declared.Event.{Event}
 use Rattle.events.specs.declared.Event.TheVariants.{NewBoard, Submit, Clock, Withdraw, GridBoard}
-use Rattle.events.specs.declared.Reading.{Reading}
-use Rattle.events.specs.declared.Reading.TheVariants.{End, Got, CutShort, Unknown}
-use Rattle.events.specs.Records.{read_from}
+use Rattle.events.specs.Records.{Reading, read_from}
 use Rattle.figures.specs.Figures.{Trial}
 
 -- the counters of a sheet, none of them above a bound
@@ -27,22 +25,19 @@ clock_after now (GridBoard W H g) answer = 0
 
 -- the next record: its event with the answer that stands in its line, the clock after it, its size
 unfoldable pub trial_read : ℕ → Reading → ℕ → ℕ → List Trial
-trial_read now End answer start = []
-trial_read now (Got v n) answer start = record { now = now; event = v; answer = answer; start = start } ∷ []
-trial_read now (CutShort k) answer start = []
-trial_read now (Unknown k) answer start = []
+trial_read now (Ok None) answer start = []
+trial_read now (Ok (Some (v, n))) answer start = record { now = now; event = v; answer = answer; start = start } ∷ []
+trial_read now (Err e) answer start = []
 
 unfoldable pub clock_read : ℕ → Reading → ℕ → ℕ
-clock_read now End answer = now
-clock_read now (Got v n) answer = clock_after now v answer
-clock_read now (CutShort k) answer = now
-clock_read now (Unknown k) answer = now
+clock_read now (Ok None) answer = now
+clock_read now (Ok (Some (v, n))) answer = clock_after now v answer
+clock_read now (Err e) answer = now
 
 unfoldable pub size_read : Reading → ℕ
-size_read End = 0
-size_read (Got v n) = n
-size_read (CutShort k) = 0
-size_read (Unknown k) = 0
+size_read (Ok None) = 0
+size_read (Ok (Some (v, n))) = n
+size_read (Err e) = 0
 
 -- lines of six numbers each, one behind the other, and the bytes of their events
 unfoldable pub trials_in : ℕ → ℕ → List ℕ → List ℕ → List Trial

@@ -1,50 +1,66 @@
 // The acceptance figures of a recording, counted from its lines and its records.
 #![tactic(auto)]
 
-ghost use Rattle.std.specs.Prelude.{◌≡◌, cond, [], ◌∷◌, ◌+◌, ◌-◌, ◌*◌, ◌≤◌, ◌<◌, eqb, length, get_or, drop};
-ghost use Rattle.events.specs.Records.{read_from};
+ghost use Rattle.std.specs.Prelude.{◌≡◌, cond, [], ◌∷◌, ◌+◌, ◌-◌, ◌*◌, ◌≤◌, ◌<◌, eqb, length, get_or};
 ghost use Rattle.sheets.specs.Sheets.{plus};
-ghost use Rattle.figures.specs.Figures.{fate_of, verdict_of, sheet_with, sheet_of};
-ghost use Rattle.figures.specs.Rows.{Roomy, bumped, clock_after, trial_read, clock_read, size_read, trials_in};
+ghost use Rattle.figures.specs.Figures.{fate_of, place_of, verdict_of, sheet_with, sheet_of};
+ghost use Rattle.figures.specs.Rows.{Roomy, bumped, clock_after, trials_in};
 
-use events::{Ask, Event, Reading};
+use events::{Ask, Event};
 
-// A submission's planner, laxity class (0 to 3), the line of the summary that it came to, and the ticks that it waits.
+// The line of the summary that a submission came to: the three of its planner and class, or the one without class.
+#[derive(Clone, Copy, PartialEq, Eq)]
+pub enum Fate {
+    Taken,
+    Rejected,
+    Refused,
+    Classless,
+}
+
+// A submission's planner, laxity class, what came of it, and the ticks that it waits.
+// Stays: planner and class are numbers, since they say which row of the sheet: the planner as the record's byte has it,
+// which may be no planner's, the class from 0 to 3 as `laxity::class_of` gives it.
 #[derive(Clone, Copy)]
 pub struct Verdict {
     pub planner: u8,
     pub class: u8,
-    pub fate: u8,
+    pub fate: Fate,
     pub waited: u32,
 }
 
 // THE ONE MAP from an answer's number to a line of the summary.
-fn fate_of(answer: u32) -> u8
+fn fate_of(answer: u32) -> Fate
     ensures { result ≡ fate_of answer }
 {
-    if answer == 0 {
-        return 0;
+    match answer {
+        0 => Fate::Taken,
+        10 => Fate::Rejected,
+        9 | 18 => Fate::Refused,
+        _ => Fate::Classless,
     }
-    if answer == 10 {
-        return 1;
+}
+
+// Where it stands among them.
+fn place_of(fate: Fate) -> usize
+    ensures { result ≡ place_of fate }
+{
+    match fate {
+        Fate::Taken => 0,
+        Fate::Rejected => 1,
+        Fate::Refused => 2,
+        Fate::Classless => 3,
     }
-    if (answer == 9) | (answer == 18) {
-        return 2;
-    }
-    3
 }
 
 // Start less arrival, of a task that was taken.
 fn wait_of(now: u32, answer: u32, start: u32) -> u32
     ensures { result ≡ cond (eqb answer 0) (start - now) 0 }
 {
-    if answer != 0 {
-        return 0;
+    if answer == 0 {
+        start.saturating_sub(now)
+    } else {
+        0
     }
-    if start < now {
-        return 0;
-    }
-    start - now
 }
 
 // A counter grows.
@@ -52,24 +68,24 @@ fn bump(figures: &mut [u64; 83], at: usize, more: u32)
     requires { (at < 83) × (get_or figures.old at 0 ≤ 9223372036854775808) }
     ensures { figures.new ≡ bumped figures.old at more }
 {
-    figures[at] += more as u64;
+    figures[at] += u64::from(more);
 }
 
 // One submission more: in the row of its planner and class, or without class.
 fn count(figures: &mut [u64; 83], v: Verdict)
-    requires { (v.class < 4) × (v.fate < 4) × Roomy 4611686018427387904 figures.old }
+    requires { (v.class < 4) × Roomy 4611686018427387904 figures.old }
     ensures { figures.new ≡ plus figures.old (sheet_with (v ∷ []) 0 0) }
 {
-    if v.fate == 3 {
+    if let Fate::Classless = v.fate {
         bump(figures, 80, 1);
         return;
     }
     if 3 < v.planner {
         return;
     }
-    let at = v.planner as usize * 20 + v.class as usize * 5;
+    let at = usize::from(v.planner) * 20 + usize::from(v.class) * 5;
     bump(figures, at, 1);
-    bump(figures, at + 1 + v.fate as usize, 1);
+    bump(figures, at + 1 + place_of(v.fate), 1);
     bump(figures, at + 4, v.waited);
 }
 
@@ -81,20 +97,13 @@ fn count_event(figures: &mut [u64; 83], clock: u32, event: Event, answer: u32, s
 {
     bump(figures, 81, 1);
     match event {
-        Event::NewBoard {
-            columns: _,
-            rows: _,
-        } => 0,
-        Event::GridBoard {
-            columns: _,
-            rows: _,
-            grid: _,
-        } => 0,
+        Event::NewBoard { .. } => 0,
+        Event::GridBoard { .. } => 0,
         Event::Submit { planner, ask } => {
             count(
                 figures,
                 Verdict {
-                    planner: planner,
+                    planner,
                     class: laxity::class_of(laxity::measure(clock, ask.e, ask.d)),
                     fate: fate_of(answer),
                     waited: wait_of(clock, answer, start),
@@ -103,49 +112,7 @@ fn count_event(figures: &mut [u64; 83], clock: u32, event: Event, answer: u32, s
             clock
         }
         Event::Clock { instant } => if answer == 0 { instant } else { clock },
-        Event::Withdraw { id: _ } => clock,
-    }
-}
-
-// How many bytes the next record takes, 0 where there is no whole one, and the clock after its event.
-#[derive(Clone, Copy)]
-struct Next {
-    size: usize,
-    clock: u32,
-}
-
-// The next record, with the answer that stands in its line. (A start has 32 bits: its caller has read it from a slice.)
-fn count_next(
-    figures: &mut [u64; 83],
-    clock: u32,
-    bytes: &[u8],
-    at: usize,
-    answer: u32,
-    start: u32,
-) -> Next
-    requires { Roomy 4611686018427387903 figures.old }
-    ensures size_value { (result.size ≡ size_read (read_from (drop at bytes.now))) × (result.clock ≡ clock_read clock (read_from (drop at bytes.now)) answer) }
-    ensures figures_after { figures.new ≡ plus figures.old (sheet_of 0 (trial_read clock (read_from (drop at bytes.now)) answer start)) }
-    ensures start_bound { start ≤ 4294967295 }
-{
-    let reading = events::read_at(bytes, at);
-    match reading {
-        Reading::End => Next {
-            size: 0,
-            clock: clock,
-        },
-        Reading::Got(event, size) => Next {
-            size: size,
-            clock: count_event(figures, clock, event, answer, start),
-        },
-        Reading::CutShort(_) => Next {
-            size: 0,
-            clock: clock,
-        },
-        Reading::Unknown(_) => Next {
-            size: 0,
-            clock: clock,
-        },
+        Event::Withdraw { .. } => clock,
     }
 }
 
@@ -164,14 +131,17 @@ pub fn count_rows(clock: u32, numbers: &[u32], count: usize, bytes: &[u8]) -> [u
     let mut figures = no_figures();
     let mut then = clock;
     let mut at: usize = 0;
-    let mut i: usize = 0;
-    while i < count {
-        let answer = numbers[i * 6 + 2];
-        let start = numbers[i * 6 + 4];
-        let next = count_next(&mut figures, then, bytes, at, answer, start);
-        at += next.size;
-        then = next.clock;
-        i += 1;
+    for i in 0..count {
+        if let Ok(Some((event, size))) = events::read_at(bytes, at) {
+            then = count_event(
+                &mut figures,
+                then,
+                event,
+                numbers[i * 6 + 2],
+                numbers[i * 6 + 4],
+            );
+            at += size;
+        }
     }
     figures
 }

@@ -3,11 +3,11 @@ use Prim.Native.Nat.{ℕ, suc, ◌+◌, ◌≤◌}
 use mathlib.Core.Path.{◌≡◌, refl, sym, ap, ◌∙◌, subst}
 use mathlib.Core.Bool.{Bool, true, false}
 use mathlib.Core.List.{List, [], ◌∷◌, ◌++◌, append-nil}
-use mathlib.Core.Option.{none}
 use native.Mathlib.Nat.{zero-add}
 use native.Mathlib.Omega.{arith}
 use lib.ListN.{length}
 use lib.Seq.{sets, length-sets}
+use Rattle.std.specs.Prelude.{None}
 use Rattle.lists.specs.Lists.{each, over_front}
 use Rattle.text.specs.Text.{ascii, decimal_in, decimal, line_text, row_text}
 use Rattle.text.specs.Digits.{Put, spaced}
@@ -40,7 +40,7 @@ last-plain : line_text (decimal 0 ∷ []) ≡ ascii "0\n"
 unfolding line_text decimal decimal_in
 last-plain = refl
 
-last-worded : line_text (decimal 0 ∷ id_text none ∷ decimal 15 ∷ answer_words 15 ∷ []) ≡ ascii "0 - 15 the record is cut short\n"
+last-worded : line_text (decimal 0 ∷ id_text None ∷ decimal 15 ∷ answer_words 15 ∷ []) ≡ ascii "0 - 15 the record is cut short\n"
 unfolding line_text id_text decimal decimal_in answer_words
 last-worded = refl
 

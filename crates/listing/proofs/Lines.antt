@@ -3,7 +3,6 @@ use Prim.Native.Nat.{ℕ, zero, suc, ◌+◌, ◌-◌, ◌*◌, ◌≤◌, ◌<�
 use mathlib.Core.Path.{◌≡◌, refl, sym, ap, ap₂, ◌∙◌, subst}
 use mathlib.Core.Bool.{Bool, true, false, cond}
 use mathlib.Core.List.{List, [], ◌∷◌, ◌++◌, append-nil, append_assoc}
-use mathlib.Core.Option.{none}
 use native.Mathlib.Decide.{dec_lt, ℕ_discrete as dec_eq}
 use native.Mathlib.Nat.{zero-add}
 use native.Mathlib.Omega.{arith}
@@ -16,9 +15,9 @@ use Rattle.text.specs.Text.{ascii, row_text, rows_text, rows_of}
 use Rattle.text.specs.Digits.{Put}
 use Rattle.text.proofs.Rows.{rows-front}
 use Rattle.events.specs.declared.Event.{Event}
-use Rattle.events.specs.declared.Reading.{Reading}
-use Rattle.events.specs.declared.Reading.TheVariants.{End, Got, CutShort, Unknown}
-use Rattle.events.specs.Records.{id_of, read_from}
+use Rattle.std.specs.Prelude.{Ok, Err, Some, None}
+use Rattle.events.specs.declared.ReadError.TheVariants.{CutShort, Unknown}
+use Rattle.events.specs.Records.{Reading, id_of, read_from}
 use Rattle.board.specs.Answers.{Told}
 use Rattle.steps.specs.declared.State.{State}
 use Rattle.session.specs.Recording.{Line, line_of, stop_line, outcome, Run, still, ran_from, room_for, line_numbers}
@@ -56,15 +55,15 @@ worded-none : (rest bytes : List ℕ) → worded_rows 0 rest bytes ≡ []
 unfolding worded_rows
 worded-none rest bytes = refl
 
-line-id : (n : ℕ) (v : Event) (a : Told) (size : ℕ) → (line_of n v a).id ≡ id_read (Got v size)
+line-id : (n : ℕ) (v : Event) (a : Told) (size : ℕ) → (line_of n v a).id ≡ id_read (Ok (Some (v, size)))
 unfolding line_of id_read
 line-id n v a size = refl
 
-got-size : (v : Event) (size : ℕ) → size_read (Got v size) ≡ size
+got-size : (v : Event) (size : ℕ) → size_read (Ok (Some (v, size))) ≡ size
 unfolding size_read
 got-size v size = refl
 
-stop-id : (n k m : ℕ) → (stop_line n k m).id ≡ id_read (Unknown k)
+stop-id : (n k m : ℕ) → (stop_line n k m).id ≡ id_read (Err (Unknown k))
 unfolding stop_line id_read
 stop-id n k m = refl
 
@@ -85,10 +84,10 @@ worded-run (suc room) b n bytes ls rest = go (λ c m ws. worded-run room c m ws 
     stopped e = subst (λ x. Runs x bytes) (sym e) refl
 
     go : ((c : State) (m : ℕ) (ws : List ℕ) → Runs (ran_from room c m ws) ws) → (r : Reading) → read_from bytes ≡ r → Runs (ran_from (suc room) b n bytes) bytes
-    go next End e = stopped (rw (e, ran_from))
-    go next (CutShort k) e = stopped (rw (e, ran_from))
-    go next (Unknown k) e = stopped (rw (e, ran_from))
-    go next (Got v size) e = subst (λ x. Runs x bytes) (sym (ran-got room b n bytes v size e)) one
+    go next (Ok None) e = stopped (rw (e, ran_from))
+    go next (Err (CutShort k)) e = stopped (rw (e, ran_from))
+    go next (Err (Unknown k)) e = stopped (rw (e, ran_from))
+    go next (Ok (Some (v, size))) e = subst (λ x. Runs x bytes) (sym (ran-got room b n bytes v size e)) one
       where
         later : Run
         later = ran_from room (outcome b v).state (suc n) (drop size bytes)
@@ -148,7 +147,7 @@ worded-over r kept bytes words rest = over_by (Says bytes rest) r kept bytes wor
         ∙ ap (λ x. each run.lines worded_text ++ x) (worded-none (line_numbers [] ++ rest) left) ∙ append-nil (each run.lines worded_text)
 
     -- and the line of a stranger behind them
-    strange : length run.lines < room → (k : ℕ) → read_from left ≡ Unknown k → Says bytes rest (meets_stranger r run (length bytes - kept) k)
+    strange : length run.lines < room → (k : ℕ) → read_from left ≡ Err (Unknown k) → Says bytes rest (meets_stranger r run (length bytes - kept) k)
     strange q k e =
         worded-run room r.state r.number bytes (line ∷ []) rest ∙ ap (λ x. each run.lines worded_text ++ x) last
         ∙ sym (each_append run.lines (line ∷ []) worded_text)
@@ -176,21 +175,6 @@ pub told_text : (words : Bool) (r : Reader) (p : List ℕ) (w : ℕ) (rest : Lis
 unfolding text_of listing_text
 told_text true r p w rest = worded-heard r p w rest
 told_text false r p w rest = plain (heard r p w).lines rest
-
--- the header, with words and without
-pub header-words : (w : Bool) → w ≡ true → header_text w ≡ ascii "event kind answer column start finish id answer\n"
-unfolding header_text
-header-words w e = rw e
-
-pub header-plain : (w : Bool) → w ≡ false → header_text w ≡ ascii "event kind answer column start finish\n"
-unfolding header_text
-header-plain w e = rw e
-
--- a text put at the front
-pub put_front : (l : List ℕ) {m xs ys : List ℕ} {p : ℕ} → xs ≡ ys → p ≡ 0 + length ys → m ≡ sets l 0 ys → p ≤ length l → (p ≡ length xs) × (m ≡ over_front xs l)
-put_front l {m} {xs} {ys} {p} e h q n =
-    let all : Put l 0 xs m p = record { stored = q ∙ ap (sets l 0) (sym e); place = h ∙ ap (λ y. 0 + length y) (sym e) } in
-    (all.place ∙ zero-add (length xs), rows-front xs all n)
 
 -- the text of lines, with words and without
 pub text-words : (w : Bool) (count : ℕ) (numbers bytes : List ℕ) → w ≡ true → text_of w count numbers bytes ≡ worded_rows count numbers bytes

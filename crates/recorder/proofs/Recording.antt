@@ -7,9 +7,8 @@ use native.Mathlib.Omega.{arith}
 use lib.ListN.{length, take, drop, length-drop, drop_of_length-le}
 use lib.Seq.{sets, sets-eq, drop-drop}
 use Rattle.events.specs.declared.Event.{Event}
-use Rattle.events.specs.declared.Written.{Written}
-use Rattle.events.specs.declared.Written.TheVariants.{NoRoom, Length}
-use Rattle.events.specs.Records.{record_of, body_of, written, written_buffer}
+use Rattle.std.specs.Prelude.{Ok}
+use Rattle.events.specs.Records.{Written, record_of, body_of, written, written_buffer}
 use Rattle.events.proofs.Found.{Known, new-board, submit, clock, withdraw, grid-board}
 use Rattle.events.proofs.Calls.{has-kind}
 use Rattle.events.proofs.Writing.{room-answer, room-buffer}
@@ -40,14 +39,8 @@ module _ (v : Event) (l : List ℕ) (used : ℕ) (h : used + 18 ≤ length l) wh
   enough : length (record_of v) ≤ length room
   enough = omega (arith, record-short v, length-drop used l, ap length (onward l used))
 
-  pub put-length : {n : ℕ} {w : Written} → w ≡ written v (length room) → w ≡ Length n → n ≡ length (record_of v)
-  put-length {n} {w} e f = let g : Length n ≡ Length (length (record_of v)) = sym f ∙ e ∙ room-answer v room enough in cc
-
-  pub put-room : {w : Written} → w ≡ written v (length room) → w ≡ NoRoom → ⊥
-  put-room {w} e f =
-      let g : NoRoom ≡ Length (length (record_of v)) = sym f ∙ e ∙ room-answer v room enough in
-      let z : ◌≡◌ {A = ℕ} 0 1 = cc in
-      omega arith
+  pub put-length : {w : Written} → w ≡ written v (length room) → w ≡ Ok (length (record_of v))
+  put-length e = e ∙ room-answer v room enough
 
   pub put-stored : {m : List ℕ} → m ≡ written_buffer v room → take used l ++ (m ++ drop (length l - used) (drop used l)) ≡ sets l used (record_of v)
   put-stored {m} e =

@@ -11,7 +11,7 @@ ghost use Rattle.lines.specs.Lines.{bare, less_return};
 ghost use Rattle.recorder.specs.Recorder.{unmarked, shown_byte, quoted, board_wants, submit_wants, clock_wants, withdraw_wants, expected, count_text, wrong_text, long_text, line_made};
 ghost use Rattle.recorder.specs.Machine.{Found, step_of, begun, added, part_fed, feeding, fed_of, closing, closed_of};
 
-use events::{Event, Written};
+use events::Event;
 use lines::Line;
 use tokens::{Sort, Word};
 
@@ -304,11 +304,7 @@ fn put_record(out: &mut [u8], used: usize, event: Event) -> usize
     ensures value { result ≡ length (record_of event) }
     ensures out_after { out.new ≡ sets out.old used (record_of event) }
 {
-    let w = events::write(&mut out[used..], event);
-    match w {
-        Written::NoRoom => 0,
-        Written::Length(n) => n,
-    }
+    events::write(&mut out[used..], event).unwrap()
 }
 
 // What a line made: the bytes of its output, how many records that is, whether the run goes on.

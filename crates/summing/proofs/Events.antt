@@ -19,9 +19,9 @@ use Rattle.board.specs.Calls.{submitted}
 use Rattle.board.proofs.Placed.{placed-books}
 use Rattle.events.specs.declared.Event.{Event}
 use Rattle.events.specs.declared.Event.TheVariants.{NewBoard, Submit, Clock, Withdraw, GridBoard}
-use Rattle.events.specs.declared.Reading.{Reading}
-use Rattle.events.specs.declared.Reading.TheVariants.{End, Got, CutShort, Unknown}
-use Rattle.events.specs.Records.{read_from, submission_of}
+use Rattle.std.specs.Prelude.{Ok, Err, Some, None}
+use Rattle.events.specs.Records.{Reading, read_from, submission_of}
+use Rattle.events.specs.declared.ReadError.TheVariants.{CutShort, Unknown}
 use Rattle.steps.specs.declared.State.{State}
 use Rattle.session.specs.Recording.{stop_line, outcome, Story, story_from, Run, still, ran_from, room_for, most_events}
 use Rattle.session.proofs.Running.{ran-got}
@@ -61,10 +61,10 @@ run-state (suc room) b n bytes = go (λ c m ws. run-state room c m ws) (read_fro
     stopped e = subst (Follows b) (sym e) refl
 
     go : ((c : State) (m : ℕ) (ws : List ℕ) → Follows c (ran_from room c m ws)) → (r : Reading) → read_from bytes ≡ r → Follows b (ran_from (suc room) b n bytes)
-    go next End e = stopped (rw (e, ran_from))
-    go next (CutShort k) e = stopped (rw (e, ran_from))
-    go next (Unknown k) e = stopped (rw (e, ran_from))
-    go next (Got v size) e = subst (Follows b) (sym (ran-got room b n bytes v size e)) (next (outcome b v).state (suc n) (drop size bytes))
+    go next (Ok None) e = stopped (rw (e, ran_from))
+    go next (Err (CutShort k)) e = stopped (rw (e, ran_from))
+    go next (Err (Unknown k)) e = stopped (rw (e, ran_from))
+    go next (Ok (Some (v, size))) e = subst (Follows b) (sym (ran-got room b n bytes v size e)) (next (outcome b v).state (suc n) (drop size bytes))
 
 -- a piece leaves the state after its events, and no more than the last event that may be
 pub record Leaves (r : Reader) (h : Heard) : Type 0 where
@@ -150,9 +150,9 @@ whole-few (suc left) s n bytes e = go (λ c m ws q. whole-few left c m ws q) (re
 
     go : ((c : State) (m : ℕ) (ws : List ℕ) → whole? (story_from left c m ws).end ≡ true → length (story_from left c m ws).events < left)
         → (r : Reading) → read_from bytes ≡ r → Few (story_from (suc left) s n bytes)
-    go next End q = subst Few (sym (story-end left s n bytes q)) (omega arith)
-    go next (CutShort k) q = subst Few (sym (story-cut left s n bytes k q)) (omega arith)
-    go next (Unknown k) q = subst Few (sym (story-strange left s n bytes k q)) (omega arith)
-    go next (Got v size) q =
+    go next (Ok None) q = subst Few (sym (story-end left s n bytes q)) (omega arith)
+    go next (Err (CutShort k)) q = subst Few (sym (story-cut left s n bytes k q)) (omega arith)
+    go next (Err (Unknown k)) q = subst Few (sym (story-strange left s n bytes k q)) (omega arith)
+    go next (Ok (Some (v, size))) q =
         subst Few (sym (story-got left s n bytes v size q))
         (omega (arith, next (outcome s v).state (suc n) (drop size bytes) (sym (ap (λ (x : Story). whole? x.end) (story-got left s n bytes v size q)) ∙ e)))

@@ -24,9 +24,9 @@ use Rattle.tasks.specs.Numbers.{device}
 use Rattle.planners.specs.Planners.{planned}
 use Rattle.events.specs.declared.Event.{Event}
 use Rattle.events.specs.declared.Event.TheVariants.{NewBoard, Submit, Clock, Withdraw, GridBoard}
-use Rattle.events.specs.declared.Reading.{Reading}
-use Rattle.events.specs.declared.Reading.TheVariants.{End, Got, CutShort, Unknown}
-use Rattle.events.specs.Records.{read_from, submission_of}
+use Rattle.std.specs.Prelude.{Ok, Err, Some, None}
+use Rattle.events.specs.Records.{Reading, read_from, submission_of}
+use Rattle.events.specs.declared.ReadError.TheVariants.{CutShort, Unknown}
 use Rattle.steps.specs.declared.State.{State}
 use Rattle.session.specs.Recording.{Line, line_of, stop_line, outcome, Run, still, ran_from, room_for, line_numbers}
 use Rattle.session.proofs.Running.{ran-got}
@@ -88,7 +88,7 @@ unfolding source_of
 source-behind r p e = rw (ne_eqb (length (held_of r)) 0 e)
 
 -- a line's own event stands at the front of the bytes
-one_line : (s : State) (v : Event) (n size : ℕ) (ls : List Line) (rest bytes : List ℕ) → read_from bytes ≡ Got v size → let o = outcome s v in let line = line_of n v o.answer in
+one_line : (s : State) (v : Event) (n size : ℕ) (ls : List Line) (rest bytes : List ℕ) → read_from bytes ≡ Ok (Some (v, size)) → let o = outcome s v in let line = line_of n v o.answer in
     trials_in (suc (length ls)) s.board.now (line_numbers (line ∷ ls) ++ rest) bytes
     ≡ record { now = s.board.now; event = v; answer = o.answer.number; start = o.answer.start } ∷ trials_in (length ls) o.state.board.now (line_numbers ls ++ rest) (drop size bytes)
 unfolding trials_in trial_read clock_read size_read line_numbers line_of
@@ -113,10 +113,10 @@ trials-run (suc room) b n bytes ls rest = go (λ c m ws. trials-run room c m ws 
     stopped e = subst (λ x. Runs b x bytes) (sym e) refl
 
     go : ((c : State) (m : ℕ) (ws : List ℕ) → Runs c (ran_from room c m ws) ws) → (r : Reading) → read_from bytes ≡ r → Runs b (ran_from (suc room) b n bytes) bytes
-    go next End e = stopped (rw (e, ran_from))
-    go next (CutShort k) e = stopped (rw (e, ran_from))
-    go next (Unknown k) e = stopped (rw (e, ran_from))
-    go next (Got v size) e = subst (λ x. Runs b x bytes) (sym (ran-got room b n bytes v size e)) one
+    go next (Ok None) e = stopped (rw (e, ran_from))
+    go next (Err (CutShort k)) e = stopped (rw (e, ran_from))
+    go next (Err (Unknown k)) e = stopped (rw (e, ran_from))
+    go next (Ok (Some (v, size))) e = subst (λ x. Runs b x bytes) (sym (ran-got room b n bytes v size e)) one
       where
         later : Run
         later = ran_from room (outcome b v).state (suc n) (drop size bytes)
@@ -142,7 +142,7 @@ no-trials : (now : ℕ) (numbers bytes : List ℕ) → trials_in 0 now numbers b
 unfolding trials_in
 no-trials now numbers bytes = refl
 
-strange-trial : (now k n : ℕ) (rest bytes : List ℕ) → read_from bytes ≡ Unknown k → trials_in 1 now (line_numbers (stop_line n k 16 ∷ []) ++ rest) bytes ≡ []
+strange-trial : (now k n : ℕ) (rest bytes : List ℕ) → read_from bytes ≡ Err (Unknown k) → trials_in 1 now (line_numbers (stop_line n k 16 ∷ []) ++ rest) bytes ≡ []
 unfolding trials_in trial_read clock_read size_read
 strange-trial now k n rest bytes e = rw e
 
@@ -166,7 +166,7 @@ trials-over r kept bytes words rest = over_by (Says r.state bytes rest) r kept b
         ∙ ap (λ x. trials_from r.state run.events ++ x) (no-trials run.state.board.now (line_numbers [] ++ rest) left) ∙ append-nil (trials_from r.state run.events)
 
     -- and the line of a stranger behind them
-    strange : length run.lines < room → (k : ℕ) → read_from left ≡ Unknown k → Says r.state bytes rest (meets_stranger r run (length bytes - kept) k)
+    strange : length run.lines < room → (k : ℕ) → read_from left ≡ Err (Unknown k) → Says r.state bytes rest (meets_stranger r run (length bytes - kept) k)
     strange q k e =
         trials-run room r.state r.number bytes (stop_line (suc (r.number + length run.lines)) k 16 ∷ []) rest
         ∙ ap (λ x. trials_from r.state run.events ++ x) (strange-trial run.state.board.now k (suc (r.number + length run.lines)) rest left e)

@@ -6,7 +6,7 @@ use borrow.Author.Tests.{eq-eqb, ne_eqb}
 use Rattle.laxity.specs.Laxity.{class_of}
 use Rattle.figures.specs.Figures.{verdict_of}
 use Rattle.figures.specs.Rows.{clock_after}
-use Rattle.figures.proofs.Tallying.{class-few, fate-few, room-left, event-alone, event-submits, verdict-is}
+use Rattle.figures.proofs.Tallying.{class-few, room-left, event-alone, event-submits, verdict-is}
 use Rattle.figures.proofs.count_event.Goals as goal
 
 pub bump-requires : goal.bump-requires
@@ -15,7 +15,6 @@ bump-requires c = (omega arith, omega (arith, c.requires.small 81))
 pub count-requires : goal.count-requires
 count-requires c = (
   subst (λ n. n < 4) (sym c.class_of.ensures) (class-few c.measure.result),
-  subst (λ n. n < 4) (sym c.fate_of.ensures) (fate-few c.args.answer),
   room-left c.args.figures.now c.requires c.bump.ensures,
 )
 
