@@ -1,38 +1,26 @@
 // What `ask` answers with, as text: the line of the answer, and a board with its live tasks.
 #![tactic(auto)]
 
-ghost use Rattle.std.specs.Prelude.{◌≡◌, cond, [], ◌∷◌, ◌++◌, ◌+◌, ◌≤◌, ◌<◌, length};
+ghost use Rattle.std.specs.Prelude.{◌≡◌, cond, eqb, [], ◌∷◌, ◌++◌, ◌+◌, ◌≤◌, ◌<◌, length};
 ghost use Rattle.lists.specs.Lists.{over_front};
 ghost use Rattle.tasks.specs.Tasks.{live};
 ghost use Rattle.text.specs.Text.{decimal, row_text};
 ghost use Rattle.text.specs.Digits.{Put};
-ghost use Rattle.board_text.specs.BoardText.{phase_word, answer_text, halt_text, task_text, tasks_text, device_row, shown_text, board_text, stamp_text};
+ghost use Rattle.board_text.specs.BoardText.{phase_word, answer_text, is_cut_short, is_unknown, halt_text, task_text, tasks_text, device_row, shown_text, board_text, stamp_text};
 
 use board::Board;
 use tasks::{Phase, Task};
 
-// "phase in words", the last of a row; the place after the line.
-fn put_phase(out: &mut [u8], at: usize, phase: Phase) -> usize
-    requires { at + 8 ≤ length out.old }
-    ensures put { Put out.old at (phase_word phase ++ (10 ∷ [])) out.new result }
-    ensures upper_bound { result ≤ at + 8 }
+// "phase in words", the last of a row, and the newline.
+fn phase_line(phase: Phase) -> &'static [u8]
+    ensures line { result.now ≡ phase_word phase ++ (10 ∷ []) }
+    ensures upper_bound { length result.now ≤ 8 }
 {
     match phase {
-        Phase::Ended => text::put_bytes(out, at, b"ended\n"),
-        Phase::Waiting => text::put_bytes(out, at, b"waiting\n"),
-        Phase::Running => text::put_bytes(out, at, b"running\n"),
+        Phase::Ended => b"ended\n",
+        Phase::Waiting => b"waiting\n",
+        Phase::Running => b"running\n",
     }
-}
-
-// The finish of a record and the space behind it; the place after both.
-fn put_finish(out: &mut [u8], at: usize, start: u32, e: u32) -> usize
-    requires { at + 21 ≤ length out.old }
-    ensures put { Put out.old at (decimal (start + e) ++ (32 ∷ [])) out.new result }
-    ensures upper_bound { result ≤ at + 21 }
-{
-    let after = text::put_long(out, at, start as u64 + e as u64);
-    out[after] = b' ';
-    after + 1
 }
 
 // "a row `slot id w h e d column start finish phase`"; the place after it.
@@ -41,20 +29,24 @@ fn put_task(out: &mut [u8], at: usize, slot: u32, k: Task) -> usize
     ensures put { Put out.old at (task_text slot k) out.new result }
     ensures upper_bound { result ≤ at + 117 }
 {
-    let phase = k.phase;
     let words = [
         slot,
         k.id,
-        k.w as u32,
-        k.h as u32,
+        u32::from(k.w),
+        u32::from(k.h),
         k.e,
         k.d,
-        k.column as u32,
+        u32::from(k.column),
         k.start,
     ];
-    let finish_at = text::put_spaced(out, at, &words, 0, 8);
-    let phase_at = put_finish(out, finish_at, k.start, k.e);
-    put_phase(out, phase_at, phase)
+    let finish_at = text::put_spaced(out, at, &words);
+    let phase_at = text::put_ended::<10>(
+        out,
+        finish_at,
+        u64::from(k.start) + u64::from(k.e),
+        b' ',
+    );
+    text::put_bytes(out, phase_at, phase_line(k.phase))
 }
 
 // The row of a slot, if a live task is in it: `k` decides, and `s` is the record to show.
@@ -77,12 +69,10 @@ fn put_tasks(out: &mut [u8], at: usize, tasks: [Task; 64], shown: [Task; 64]) ->
     ensures upper_bound { result ≤ at + 7488 }
 {
     let mut place = at;
-    let mut i: usize = 0;
-    while i < 64 {
+    for i in 0..64 {
         let k = tasks[i];
         let s = shown[i];
         place = put_slot(out, place, i as u32 + 1, k, s);
-        i += 1;
     }
     place
 }
@@ -94,15 +84,15 @@ fn put_device(out: &mut [u8], board: Board) -> usize
     ensures upper_bound { result ≤ 44 }
 {
     let words = [
-        board.device.columns as u32,
-        board.device.rows as u32,
+        u32::from(board.device.columns),
+        u32::from(board.device.rows),
         board.now,
-        board.device.grid as u32,
+        u32::from(board.device.grid),
     ];
     if board.device.grid == 1 {
-        return text::put_words(out, 0, &words, 0, 3);
+        return text::put_words(out, 0, &words[..3]);
     }
-    text::put_words(out, 0, &words, 0, 4)
+    text::put_words(out, 0, &words)
 }
 
 // A board, its live tasks shown by the records of another table. The text of 64 tasks is shorter than the buffer.
@@ -144,7 +134,19 @@ pub fn put_answer(out: &mut [u8; 8192], number: u32) -> usize
     ensures upper_bound { result ≤ length out.new }
 {
     let at = text::put_bytes(out, 0, b"answer ");
-    text::put_ended(out, at, number, b'\n')
+    text::put_ended::<10>(out, at, u64::from(number), b'\n')
+}
+
+// The end of that message: what the answer says of the record.
+fn halt_tail(end: u8) -> &'static [u8]
+    ensures tail { result.now ≡ cond (eqb end 15) is_cut_short is_unknown }
+    ensures upper_bound { length result.now ≤ 60 }
+{
+    if end == 15 {
+        b") is cut short (15): not answered\n"
+    } else {
+        b") is of no known kind (16): not answered\n"
+    }
 }
 
 // The message of a recording that ends in 15 or 16, at the front of the buffer; how many bytes it takes.
@@ -153,16 +155,12 @@ pub fn put_halt(out: &mut [u8; 8192], event: u32, kind: u8, end: u8) -> usize
     ensures out_after { out.new ≡ over_front (halt_text event kind end) out.old }
     ensures upper_bound { result ≤ length out.new }
 {
-    let event_at = text::put_bytes(out, 0, b"ask: event ");
-    let after_event = text::put_decimal(out, event_at, event);
-    let kind_at = text::put_bytes(out, after_event, b" (kind ");
-    let after_kind = text::put_decimal(out, kind_at, kind as u32);
-    if end == 15 {
-        return text::put_bytes(out, after_kind, b") is cut short (15): not answered\n");
-    }
-    text::put_bytes(
+    text::put_event(
         out,
-        after_kind,
-        b") is of no known kind (16): not answered\n",
+        0,
+        b"ask: event ",
+        u64::from(event),
+        kind,
+        halt_tail(end),
     )
 }

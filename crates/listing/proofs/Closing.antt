@@ -2,7 +2,7 @@
 use Prim.Native.Nat.{ℕ, suc, ◌+◌, ◌≤◌}
 use mathlib.Core.Path.{◌≡◌, refl, sym, ap, ◌∙◌, subst}
 use mathlib.Core.Bool.{Bool, true, false}
-use mathlib.Core.List.{List, [], ◌∷◌, append-nil}
+use mathlib.Core.List.{List, [], ◌∷◌, ◌++◌, append-nil}
 use native.Mathlib.Nat.{zero-add}
 use native.Mathlib.Omega.{arith}
 use lib.ListN.{length}
@@ -21,27 +21,10 @@ use Rattle.worded.specs.Worded.{row_of, id_text, worded_text}
 use Rattle.listing.specs.declared.Listing.{Listing}
 use Rattle.listing.specs.Listing.{listing_text, stop_text, end_text, last_text, said_text, closed}
 
--- a text is put
-pub put-text : {l m xs : List ℕ} {at p : ℕ} → p ≡ at + length xs → m ≡ sets l at xs → Put l at xs m p
-put-text h q = record { stored = q; place = h }
-
--- the number of the next event
-pub next-number : (n : ℕ) {l m : List ℕ} {at p : ℕ} → p ≡ at + length (decimal (n + 1)) → m ≡ sets l at (decimal (n + 1)) → Put l at (decimal (suc n)) m p
-next-number n {l} {m} {at} {p} h q =
-    let e : n + 1 ≡ suc n = omega arith in
-    record { stored = q ∙ ap (λ k. sets l at (decimal k)) e; place = h ∙ ap (λ k. at + length (decimal k)) e }
-
-pub put-nothing : (l : List ℕ) {xs : List ℕ} → xs ≡ [] → Put l 0 xs l 0 × (0 ≤ length l)
-put-nothing l e = (record { stored = ap (sets l 0) (sym e); place = ap (λ y. 0 + length y) (sym e) }, omega arith)
-
-no_lines : (w : Bool) → listing_text w [] ≡ []
+pub no_lines : (w : Bool) → listing_text w [] ≡ []
 unfolding listing_text each
 no_lines true = refl
 no_lines false = refl
-
--- an end that has no line
-pub no_last : (w : Bool) (n : ℕ) (e : Ending) → last_lines n e ≡ [] → listing_text w (last_lines n e) ≡ []
-no_last w n e h = ap (listing_text w) h ∙ no_lines w
 
 -- the line of a 15
 one_plain : (l : Line) (w : Bool) → w ≡ false → row_text (row_of l) ≡ listing_text w (l ∷ [])
@@ -61,10 +44,10 @@ last-worded : line_text (decimal 0 ∷ id_text None ∷ decimal 15 ∷ answer_wo
 unfolding line_text id_text decimal decimal_in answer_words
 last-worded = refl
 
-module _ (w : Bool) (n k : ℕ) {l a b c m : List ℕ} {p q r s : ℕ} (x : Put l 0 (decimal (suc n)) a p) (y : Put a p (32 ∷ []) b q) (z : Put b q (spaced (k ∷ 15 ∷ 0 ∷ 0 ∷ [])) c r) where
+module _ (w : Bool) (n k : ℕ) {l b c m : List ℕ} {q r s : ℕ} (x : Put l 0 (decimal (suc n) ++ (32 ∷ [])) b q) (z : Put b q (spaced (k ∷ 15 ∷ 0 ∷ 0 ∷ [])) c r) where
   with-end : (ws : List (List ℕ)) → Put c r (line_text (decimal 0 ∷ ws)) m s
       → Put l 0 (line_text (decimal (suc n) ∷ decimal k ∷ decimal 15 ∷ decimal 0 ∷ decimal 0 ∷ decimal 0 ∷ ws)) m s
-  with-end ws t = line-more (decimal (suc n)) (decimal k) _ (put_both x y) (line-rest (k ∷ 15 ∷ 0 ∷ 0 ∷ []) (decimal 0) ws z t)
+  with-end ws t = line-more (decimal (suc n)) (decimal k) _ x (line-rest (k ∷ 15 ∷ 0 ∷ 0 ∷ []) (decimal 0) ws z t)
 
   pub cut-plain : w ≡ false → Put c r (ascii "0\n") m s → Put l 0 (listing_text w (stop_line (suc n) k 15 ∷ [])) m s
   unfolding row_text stop_line
@@ -73,19 +56,6 @@ module _ (w : Bool) (n k : ℕ) {l a b c m : List ℕ} {p q r s : ℕ} (x : Put 
   pub cut-worded : w ≡ true → Put c r (ascii "0 - 15 the record is cut short\n") m s → Put l 0 (listing_text w (stop_line (suc n) k 15 ∷ [])) m s
   unfolding worded_text stop_line
   cut-worded e t = subst (λ u. Put l 0 u m s) (one-worded (stop_line (suc n) k 15) w e) (with-end _ (subst (λ u. Put c r u m s) (sym last-worded) t))
-
--- a message
-pub stop-put : (n k : ℕ) (tail : List ℕ) {l a b c d m : List ℕ} {p q r s t : ℕ} → Put l 0 (ascii "plan: event ") a p → Put a p (decimal (suc n)) b q → Put b q (ascii " (kind ") c r
-    → Put c r (decimal k) d s → Put d s tail m t → Put l 0 (stop_text n k tail) m t
-unfolding stop_text
-stop-put n k tail x y z u v = put_both x (put_both y (put_both z (put_both u v)))
-
--- what an end puts
-pub last-is : (w : Bool) (n : ℕ) {e f : Ending} → e ≡ f → {l m : List ℕ} {p : ℕ} → Put l 0 (listing_text w (last_lines n f)) m p → Put l 0 (listing_text w (last_lines n e)) m p
-last-is w n q {l} {m} {p} x = subst (λ y. Put l 0 (listing_text w (last_lines n y)) m p) (sym q) x
-
-pub end_is : (n : ℕ) {e f : Ending} → e ≡ f → {l m : List ℕ} {p : ℕ} → Put l 0 (end_text n f) m p → Put l 0 (end_text n e) m p
-end_is n q {l} {m} {p} x = subst (λ y. Put l 0 (end_text n y) m p) (sym q) x
 
 -- at the end
 pub closes : (l : Listing) (e : Ending) → e ≡ end_of l.reader → (out err : List ℕ) {m n : List ℕ} {p q : ℕ}

@@ -176,21 +176,6 @@ unfolding text_of listing_text
 told_text true r p w rest = worded-heard r p w rest
 told_text false r p w rest = plain (heard r p w).lines rest
 
--- the header, with words and without
-pub header-words : (w : Bool) → w ≡ true → header_text w ≡ ascii "event kind answer column start finish id answer\n"
-unfolding header_text
-header-words w e = rw e
-
-pub header-plain : (w : Bool) → w ≡ false → header_text w ≡ ascii "event kind answer column start finish\n"
-unfolding header_text
-header-plain w e = rw e
-
--- a text put at the front
-pub put_front : (l : List ℕ) {m xs ys : List ℕ} {p : ℕ} → xs ≡ ys → p ≡ 0 + length ys → m ≡ sets l 0 ys → p ≤ length l → (p ≡ length xs) × (m ≡ over_front xs l)
-put_front l {m} {xs} {ys} {p} e h q n =
-    let all : Put l 0 xs m p = record { stored = q ∙ ap (sets l 0) (sym e); place = h ∙ ap (λ y. 0 + length y) (sym e) } in
-    (all.place ∙ zero-add (length xs), rows-front xs all n)
-
 -- the text of lines, with words and without
 pub text-words : (w : Bool) (count : ℕ) (numbers bytes : List ℕ) → w ≡ true → text_of w count numbers bytes ≡ worded_rows count numbers bytes
 unfolding text_of

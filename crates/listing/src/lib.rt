@@ -37,14 +37,14 @@ pub struct Closed {
 pub fn begin(words: bool) -> Listing
     ensures { result ≡ first_listing words }
 {
-    let reader = reader::begin();
     Listing {
-        reader: reader,
-        words: words,
+        reader: reader::begin(),
+        words,
     }
 }
 
 // "prints a header", at the front of the buffer; how many bytes it takes.
+#[tactic(auto, unfolding(crate::specs::Listing::header_text))]
 pub fn put_header(out: &mut [u8; 64], words: bool) -> usize
     ensures value { result ≡ length (header_text words) }
     ensures out_after { out.new ≡ over_front (header_text words) out.old }
@@ -56,23 +56,12 @@ pub fn put_header(out: &mut [u8; 64], words: bool) -> usize
     text::put_bytes(out, 0, b"event kind answer column start finish\n")
 }
 
-fn lines_of(fit: usize) -> usize
-    ensures { result ≡ min 992 fit }
-{
-    if fit < 992 {
-        return fit;
-    }
-    992
-}
-
 // As many lines as there is room for and 992 at most.
 fn lines_in(words: bool, room: usize) -> usize
     ensures { result ≡ lines_in words room }
 {
-    if words {
-        return lines_of(room / 134);
-    }
-    lines_of(room / 66)
+    let fit = if words { room / 134 } else { room / 66 };
+    fit.min(992)
 }
 
 // The text of lines that stand as numbers, at the front of the buffer; how many bytes it takes.
@@ -96,18 +85,14 @@ fn put_lines(
         return worded::put_rows(out, numbers, count, piece);
     }
     let joined = reader::window(r, piece);
-    let bytes = joined.bytes;
-    let size = joined.size;
-    worded::put_rows(out, numbers, count, &bytes[0..size])
+    worded::put_rows(out, numbers, count, &joined.bytes[..joined.size])
 }
 
 // Whether more of the recording can give a line.
 pub fn goes_on(l: Listing) -> bool
     ensures { result ≡ open? l.reader.end }
 {
-    let reader = l.reader;
-    let end = reader.end;
-    reader::is_open(end)
+    reader::is_open(l.reader.end)
 }
 
 // Room for the numbers of 992 lines.
@@ -128,14 +113,13 @@ pub fn feed(l: Listing, piece: &[u8], out: &mut [u8]) -> Listed
     let most = 6 * lines_in(l.words, out.len());
     let fed = reader::feed(reader, piece, &mut numbers[0..most]);
     let used = put_lines(out, l.words, &numbers, fed.count, reader, piece);
-    let next = fed.reader;
     Listed {
         listing: Listing {
-            reader: next,
-            words: l.words,
+            reader: fed.reader,
+            ..l
         },
         taken: fed.taken,
-        used: used,
+        used,
     }
 }
 
@@ -144,10 +128,8 @@ fn put_cut(out: &mut [u8; 128], words: bool, number: u32, kind: u8) -> usize
     ensures put { Put out.old 0 (listing_text words (stop_line (suc number) kind 15 ∷ [])) out.new result }
     ensures upper_bound { result ≤ length out.new }
 {
-    let after = text::put_long(out, 0, number as u64 + 1);
-    let from = text::put_bytes(out, after, b" ");
-    let numbers = [kind as u32, 15, 0, 0];
-    let end = text::put_spaced(out, from, &numbers, 0, 4);
+    let from = text::put_ended::<10>(out, 0, u64::from(number) + 1, b' ');
+    let end = text::put_spaced(out, from, &[u32::from(kind), 15, 0, 0]);
     if !words {
         return text::put_bytes(out, end, b"0\n");
     }
@@ -155,17 +137,15 @@ fn put_cut(out: &mut [u8; 128], words: bool, number: u32, kind: u8) -> usize
 }
 
 // "After 15 .. it prints that line"; a 16 has had its own.
+#[tactic(auto, using(crate::proofs::Closing::no_lines), unfolding(reader::specs::Reader::last_lines))]
 fn put_last(out: &mut [u8; 128], words: bool, number: u32, end: Ending) -> usize
     ensures put { Put out.old 0 (listing_text words (last_lines number end)) out.new result }
     ensures upper_bound { result ≤ length out.new }
 {
     match end {
-        Ending::NotYet => 0,
-        Ending::AtEnd => 0,
         Ending::In15(kind) => put_cut(out, words, number, kind),
+        Ending::NotYet | Ending::AtEnd | Ending::AtLast | Ending::PastLast => 0,
         Ending::In16(_) => 0,
-        Ending::AtLast => 0,
-        Ending::PastLast => 0,
     }
 }
 
@@ -175,21 +155,24 @@ fn put_stop(err: &mut [u8; 128], number: u32, kind: u8, tail: &[u8]) -> usize
     ensures put { Put err.old 0 (stop_text number kind tail.now) err.new result }
     ensures upper_bound { result ≤ length err.new }
 {
-    let event_at = text::put_bytes(err, 0, b"plan: event ");
-    let after_event = text::put_long(err, event_at, number as u64 + 1);
-    let kind_at = text::put_bytes(err, after_event, b" (kind ");
-    let after_kind = text::put_decimal(err, kind_at, kind as u32);
-    text::put_bytes(err, after_kind, tail)
+    text::put_event(
+        err,
+        0,
+        b"plan: event ",
+        u64::from(number) + 1,
+        kind,
+        tail,
+    )
 }
 
 // "a message on standard error after 15, 16 and the billionth event"
+#[tactic(auto, unfolding(crate::specs::Listing::end_text))]
 fn put_end(err: &mut [u8; 128], number: u32, end: Ending) -> usize
     ensures put { Put err.old 0 (end_text number end) err.new result }
     ensures upper_bound { result ≤ length err.new }
 {
     match end {
-        Ending::NotYet => 0,
-        Ending::AtEnd => 0,
+        Ending::NotYet | Ending::AtEnd => 0,
         Ending::In15(kind) => put_stop(
             err,
             number,
@@ -202,8 +185,9 @@ fn put_end(err: &mut [u8; 128], number: u32, end: Ending) -> usize
             kind,
             b") is of no known kind (16): the rest was not read\n",
         ),
-        Ending::AtLast => text::put_bytes(err, 0, b"plan: stopped after 1000000000 events\n"),
-        Ending::PastLast => text::put_bytes(err, 0, b"plan: stopped after 1000000000 events\n"),
+        Ending::AtLast | Ending::PastLast => {
+            text::put_bytes(err, 0, b"plan: stopped after 1000000000 events\n")
+        }
     }
 }
 
@@ -218,8 +202,5 @@ pub fn close(l: Listing, out: &mut [u8; 128], err: &mut [u8; 128]) -> Closed
     let end = reader::close(reader);
     let used = put_last(out, l.words, reader.number, end);
     let said = put_end(err, reader.number, end);
-    Closed {
-        used: used,
-        said: said,
-    }
+    Closed { used, said }
 }

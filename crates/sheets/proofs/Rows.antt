@@ -1,12 +1,12 @@
 -- A row of a sheet as code puts it, and rows one behind the other. Assumes nothing.
-use Rattle.std.proofs.Common.{◌≡◌, ℕ, ◌+◌, ◌*◌, ◌/◌, ◌%◌, ◌<◌, List, [], ◌∷◌, ◌++◌, map, get_or, take, drop, sym, refl, ap, ◌∙◌, append_assoc, append-nil, arith, get_or-drop, get_or-take}
+use Rattle.std.proofs.Common.{◌≡◌, ℕ, ◌+◌, List, [], ◌∷◌, ◌++◌, map, get_or, sym, refl, ap, ◌∙◌, append_assoc, append-nil, arith}
 use Rattle.lists.specs.Lists.{each, range}
 use Rattle.lists.proofs.Append.{range-more}
 use Rattle.text.specs.Text.{decimal, line_text}
 use Rattle.text.specs.Digits.{spaced, Put}
 use Rattle.text.proofs.Spelling.{put_both, line-end, line-more}
 use Rattle.text.proofs.Rows.{line-rest}
-use Rattle.sheets.specs.Sheets.{planner_names, class_names, row_line, row_in}
+use Rattle.sheets.specs.Sheets.{row_line, row_in}
 
 -- a word in front of numbers and a last word
 line-front : {l m n : List ℕ} {at p q : ℕ} (w ns v : List ℕ) → Put l at (w ++ (32 ∷ [])) m p → Put m p (line_text (map decimal ns ++ (v ∷ []))) n q
@@ -15,7 +15,7 @@ line-front w [] v a b = line-more w v [] a b
 line-front w (x ∷ ns) v a b = line-more w (decimal x) (map decimal ns ++ (v ∷ [])) a b
 
 -- A ROW: its planner, its class, its figures, and two of them as a ratio
-row-line : {l m n k j i : List ℕ} {at p q s t u : ℕ} (planner class ns : List ℕ) → Put l at (planner ++ (32 ∷ [])) m p → Put m p (class ++ (32 ∷ [])) n q
+pub row-line : {l m n k j i : List ℕ} {at p q s t u : ℕ} (planner class ns : List ℕ) → Put l at (planner ++ (32 ∷ [])) m p → Put m p (class ++ (32 ∷ [])) n q
     → Put n q (spaced ns) k s → Put k s (decimal (get_or ns 1 0) ++ (47 ∷ [])) j t → Put j t (decimal (get_or ns 0 0) ++ (10 ∷ [])) i u
     → Put l at (row_line planner class ns) i u
 unfolding row_line
@@ -24,17 +24,6 @@ row-line {k = k} {i = i} {s = s} {u = u} planner class ns a b c d e =
     let ratio : Put k s (over ++ (10 ∷ [])) i u =
     rw (append_assoc (decimal (get_or ns 1 0)) (47 ∷ decimal (get_or ns 0 0)) (10 ∷ [])) (rw (append_assoc (decimal (get_or ns 1 0)) (47 ∷ [])) at (put_both d e)) in
     line-more planner class (map decimal ns ++ (over ∷ [])) a (line-front class ns over b (line-rest ns over [] c (line-end over ratio)))
-
-pub row_put : {l m n k j i : List ℕ} {at p q s t u : ℕ} (ns : List ℕ) (r : ℕ) → Put l at (get_or planner_names (r / 4) [] ++ (32 ∷ [])) m p
-    → Put m p (get_or class_names (r % 4) [] ++ (32 ∷ [])) n q → Put n q (spaced (take 5 (drop (r * 5) ns))) k s
-    → Put k s (decimal (get_or ns (r * 5 + 1) 0) ++ (47 ∷ [])) j t → Put j t (decimal (get_or ns (r * 5) 0) ++ (10 ∷ [])) i u → Put l at (row_in ns r) i u
-unfolding row_in
-row_put {j = j} {t = t} ns r a b c d e =
-    row-line {j = j} {t = t} (get_or planner_names (r / 4) []) (get_or class_names (r % 4) []) (take 5 (drop (r * 5) ns)) a b c (rw (figure 1 (omega arith)) d)
-    (rw (figure 0 (omega arith) ∙ ap (λ j. get_or ns j 0) (let z : r * 5 + 0 ≡ r * 5 = omega arith in z)) e)
-  where
-    figure : (i : ℕ) → i < 5 → get_or (take 5 (drop (r * 5) ns)) i 0 ≡ get_or ns (r * 5 + i) 0
-    figure i h = get_or-take 5 (drop (r * 5) ns) i 0 h ∙ get_or-drop (r * 5) ns i 0
 
 pub each_append : {A : Type 0} (f : A → List ℕ) (xs ys : List A) → each (xs ++ ys) f ≡ each xs f ++ each ys f
 unfolding each

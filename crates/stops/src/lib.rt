@@ -23,24 +23,22 @@ fn put_stopped(
     let name_at = text::put_bytes(out, at, number);
     let after_name = text::put_bytes(out, name_at, name);
     let event_at = text::put_bytes(out, after_name, b" ");
-    let after_event = text::put_long(out, event_at, before as u64 + 1);
-    let kind_at = text::put_bytes(out, after_event, b" ");
-    text::put_ended(out, kind_at, kind as u32, b'\n')
+    let kind_at = text::put_ended::<10>(out, event_at, u64::from(before) + 1, b' ');
+    text::put_ended::<3>(out, kind_at, u64::from(kind), b'\n')
 }
 
 // The end of the last line, behind so many events of the file; the place after it.
+#[tactic(auto, unfolding(crate::specs::Stops::stop_words))]
 pub fn put_words(out: &mut [u8; 8192], at: usize, name: &[u8], before: u32, end: Ending) -> usize
     requires { (at ≤ 3000) × (length name.now ≤ 4096) }
     ensures put { Put out.old at (stop_words name.now before end) out.new result }
     ensures upper_bound { result ≤ length out.new }
 {
     match end {
-        Ending::NotYet => text::put_bytes(out, at, b"end\n"),
-        Ending::AtEnd => text::put_bytes(out, at, b"end\n"),
+        Ending::NotYet | Ending::AtEnd => text::put_bytes(out, at, b"end\n"),
         Ending::In15(kind) => put_stopped(out, at, b"15 ", name, before, kind),
         Ending::In16(kind) => put_stopped(out, at, b"16 ", name, before, kind),
-        Ending::AtLast => text::put_bytes(out, at, b"limit\n"),
-        Ending::PastLast => text::put_bytes(out, at, b"limit\n"),
+        Ending::AtLast | Ending::PastLast => text::put_bytes(out, at, b"limit\n"),
     }
 }
 
@@ -52,22 +50,25 @@ fn put_message(err: &mut [u8; 8192], name: &[u8], before: u32, kind: u8, tail: &
 {
     let name_at = text::put_bytes(err, 0, b"summary: ");
     let after_name = text::put_bytes(err, name_at, name);
-    let event_at = text::put_bytes(err, after_name, b": event ");
-    let after_event = text::put_long(err, event_at, before as u64 + 1);
-    let kind_at = text::put_bytes(err, after_event, b" (kind ");
-    let after_kind = text::put_decimal(err, kind_at, kind as u32);
-    text::put_bytes(err, after_kind, tail)
+    text::put_event(
+        err,
+        after_name,
+        b": event ",
+        u64::from(before) + 1,
+        kind,
+        tail,
+    )
 }
 
 // The message, none at the end; how many bytes it takes.
+#[tactic(auto, unfolding(crate::specs::Stops::stop_said))]
 pub fn put_said(err: &mut [u8; 8192], name: &[u8], before: u32, end: Ending) -> usize
     requires { length name.now ≤ 4096 }
     ensures put { Put err.old 0 (stop_said name.now before end) err.new result }
     ensures upper_bound { result ≤ length err.new }
 {
     match end {
-        Ending::NotYet => 0,
-        Ending::AtEnd => 0,
+        Ending::NotYet | Ending::AtEnd => 0,
         Ending::In15(kind) => put_message(
             err,
             name,
@@ -82,8 +83,9 @@ pub fn put_said(err: &mut [u8; 8192], name: &[u8], before: u32, end: Ending) -> 
             kind,
             b") is of no known kind (16): the rest was not read\n",
         ),
-        Ending::AtLast => text::put_bytes(err, 0, b"summary: stopped after 1000000000 events\n"),
-        Ending::PastLast => text::put_bytes(err, 0, b"summary: stopped after 1000000000 events\n"),
+        Ending::AtLast | Ending::PastLast => {
+            text::put_bytes(err, 0, b"summary: stopped after 1000000000 events\n")
+        }
     }
 }
 
@@ -93,8 +95,8 @@ pub fn put_progress(out: &mut [u8; 128], files: u64, events: u32) -> usize
     ensures upper_bound { result ≤ length out.new }
 {
     let files_at = text::put_bytes(out, 0, b"summary: file ");
-    let after_files = text::put_wide(out, files_at, files);
+    let after_files = text::put_number::<20>(out, files_at, files);
     let events_at = text::put_bytes(out, after_files, b", ");
-    let after_events = text::put_decimal(out, events_at, events);
+    let after_events = text::put_number::<10>(out, events_at, u64::from(events));
     text::put_bytes(out, after_events, b" events")
 }

@@ -1,10 +1,13 @@
 -- How many digits a number has: between the powers of ten, so many of its last digits are its text. Assumes nothing.
 use Prim.Native.Nat.{ℕ, zero, suc, ◌+◌, ◌*◌, ◌/◌, ◌%◌, ◌^◌, ◌≤◌, ◌<◌}
+use mathlib.Core.Bool.{Bool, true, false}
 use mathlib.Core.Path.{◌≡◌, refl, ap, ◌∙◌}
 use mathlib.Core.List.{[], ◌∷◌, ◌++◌}
 use native.Mathlib.Omega.{arith}
 use native.Mathlib.Nat.{pow-suc}
-use borrow.Author.Tests.{lt-ltb, le-ltb}
+use Rattle.std.proofs.Math.Nat.{pow-le-pow_right}
+use borrow.Author.Tests.{lt-ltb, le-ltb, leb-true, leb-false}
+use lib.Dec.{leb}
 use lib.ListN.{length, length-append}
 use Rattle.text.specs.Text.{decimal_in, decimal}
 use Rattle.text.specs.Digits.{last_digits}
@@ -45,3 +48,20 @@ decimal-more n x h k = in_all n (suc x) x (omega arith) h k
 pub decimal_digit : (x : ℕ) → x < 10 → (48 + x) ∷ [] ≡ decimal x
 unfolding last_digits
 decimal_digit x h = ap (λ d. d ∷ []) (let z : 48 + x ≡ 48 + x % 10 = omega arith in z) ∙ decimal-one x h
+
+-- by the library's logarithm: so many digits, and no more than the power of ten above says
+pub decimal-log : (k x : ℕ) → 10 ^ k ≤ x → x < 10 * 10 ^ k → last_digits (k + 1) x ≡ decimal x
+decimal-log k x h l =
+    let next : k + 1 ≡ suc k = omega arith in
+    let high : x < 10 ^ suc k = rw pow-suc (omega arith) in
+    rw next (decimal-more k x h high)
+
+pub log-most : (k most x : ℕ) → 10 ^ k ≤ x → x < 10 ^ most → k + 1 ≤ most
+log-most k most x h l = go (leb (k + 1) most) refl
+  where
+    go : (t : Bool) → leb (k + 1) most ≡ t → k + 1 ≤ most
+    go true e = leb-true (k + 1) most e
+    go false e =
+        let far : most < k + 1 = leb-false (k + 1) most e in
+        let near : most ≤ k = omega arith in
+        absurd (omega (arith, pow-le-pow_right {n = 10} (omega arith) near))

@@ -1,12 +1,12 @@
 -- Rows of words: the words of a row, and the text of one row more. Assumes nothing.
-use Prim.Native.Nat.{ℕ, zero, suc, ◌+◌, ◌*◌, ◌≤◌, ◌<◌}
-use mathlib.Core.Path.{◌≡◌, refl, sym, ap, ◌∙◌}
+use Prim.Native.Nat.{ℕ, zero, suc, ◌+◌, ◌-◌, ◌*◌, ◌≤◌, ◌<◌}
+use mathlib.Core.Path.{◌≡◌, refl, sym, ap, subst, ◌∙◌}
 use mathlib.Core.List.{List, [], ◌∷◌, ◌++◌, map, map-append, append-nil, append_assoc}
-use native.Mathlib.Nat.{zero-add, zero-mul, suc-mul, mul-le-mul_right}
+use native.Mathlib.Nat.{zero-add, zero-mul, suc-mul}
 use native.Mathlib.Numerals.{add-one}
 use native.Mathlib.Omega.{arith}
-use lib.ListN.{length, take, drop, get_or, length-drop}
-use lib.Seq.{sets-eq, take-suc, drop-drop, get_or-drop}
+use lib.ListN.{length, take, drop, get_or}
+use lib.Seq.{sets-eq, take-suc, take_all, drop-drop}
 use Rattle.lists.specs.Lists.{each, over_front}
 use Rattle.text.specs.Text.{decimal, line_text, row_text, rows_text, rows_of}
 use Rattle.text.specs.Digits.{spaced, Put}
@@ -41,25 +41,25 @@ row_last : (xs : List ℕ) (x : ℕ) → row_text (xs ++ (x ∷ [])) ≡ spaced 
 unfolding row_text line_text
 row_last xs x = ap line_text (map-append decimal xs (x ∷ [])) ∙ line-spaced xs (decimal x) []
 
--- the word at a place behind those of a part
-part-more : (words : List ℕ) (from i : ℕ) → from + i < length words → take (suc i) (drop from words) ≡ take i (drop from words) ++ (get_or words (from + i) 0 ∷ [])
-part-more words from i h =
-    take-suc (drop from words) i 0 (omega (arith, length-drop from words)) ∙ ap (λ x. take i (drop from words) ++ (x ∷ [])) (get_or-drop from words i 0)
-
--- A ROW OF n WORDS: no word yet, one more, the last
-pub words-none : (l words : List ℕ) (at from : ℕ) → Put l at (spaced (take 0 (drop from words))) l at
+-- WORDS: none yet, one more, the last of a row
+pub words-none : (l words : List ℕ) (at : ℕ) → Put l at (spaced (take 0 words)) l at
 unfolding spaced each
-words-none l words at from = record { stored = refl; place = (let z : at ≡ at + 0 = omega arith in z) }
+words-none l words at = record { stored = refl; place = (let z : at ≡ at + 0 = omega arith in z) }
 
-pub words_more : {l m n : List ℕ} {at p q : ℕ} (words : List ℕ) (from i : ℕ) → from + i < length words
-    → Put l at (spaced (take i (drop from words))) m p → Put m p (decimal (get_or words (from + i) 0) ++ (32 ∷ [])) n q
-    → Put l at (spaced (take (i + 1) (drop from words))) n q
-words_more words from i h a b = rw (add-one i, part-more words from i h, spaced-more) (put_both a b)
+pub words_more : {l m n : List ℕ} {at p q v : ℕ} (words : List ℕ) (i : ℕ) → i < length words → v ≡ get_or words i 0
+    → Put l at (spaced (take i words)) m p → Put m p (decimal v ++ (32 ∷ [])) n q → Put l at (spaced (take (i + 1) words)) n q
+words_more words i h e a b = rw (add-one i, take-suc words i 0 h, spaced-more, ← e) (put_both a b)
 
-pub words_last : {l m n : List ℕ} {at p q : ℕ} (words : List ℕ) (from i : ℕ) → from + i < length words
-    → Put l at (spaced (take i (drop from words))) m p → Put m p (decimal (get_or words (from + i) 0) ++ (10 ∷ [])) n q
-    → Put l at (row_text (take (i + 1) (drop from words))) n q
-words_last words from i h a b = rw (add-one i, part-more words from i h, row_last) (put_both a b)
+pub words-all : {l m : List ℕ} {at p i : ℕ} (words : List ℕ) → length words ≤ i → Put l at (spaced (take i words)) m p → Put l at (spaced words) m p
+words-all {l} {m} {at} {p} {i} words h a = subst (λ ns. Put l at (spaced ns) m p) (take_all i words h) a
+
+pub words_last : {l m n : List ℕ} {at p q v : ℕ} (words : List ℕ) → 0 < length words → v ≡ get_or words (length words - 1) 0
+    → Put l at (spaced (take (length words - 1) words)) m p → Put m p (decimal v ++ (10 ∷ [])) n q → Put l at (row_text words) n q
+words_last {l} {m} {n} {at} {p} {q} words h e a b =
+    let last : suc (length words - 1) ≡ length words = omega arith in
+    let all : words ≡ take (length words - 1) words ++ (get_or words (length words - 1) 0 ∷ []) =
+    sym (take_all (length words) words (omega arith)) ∙ ap (λ k. take k words) (sym last) ∙ take-suc words (length words - 1) 0 (omega arith) in
+    subst (λ ns. Put l at (row_text ns) n q) (sym all) (rw row_last (put_both a (rw e at b)))
 
 -- no row yet
 pub rows_none : (n : ℕ) (l words : List ℕ) → Put l 0 (rows_text (rows_of n 0 words)) l 0
@@ -81,12 +81,6 @@ pub rows_more : {l m k : List ℕ} {p q : ℕ} (n i : ℕ) (words : List ℕ) �
 rows_more n i words a b =
     let next : i + 1 ≡ suc i = omega arith in
     rw (next, text-more n i words) (put_both a b)
-
--- a turn of so many takes no more than all turns
-pub turn-fits : (i count k : ℕ) → i < count → i * k + k ≤ count * k
-turn-fits i count k h =
-    let next : suc i ≤ count = omega arith in
-    omega (arith, suc-mul i k, mul-le-mul_right k next)
 
 -- rows at the front of a buffer
 pub rows-front : {l m : List ℕ} {p : ℕ} (xs : List ℕ) → Put l 0 xs m p → p ≤ length l → m ≡ over_front xs l

@@ -4,12 +4,13 @@ use mathlib.Core.Path.{◌≡◌, refl, sym, ap, ◌∙◌}
 use mathlib.Core.List.{List, [], ◌∷◌, ◌++◌, append_assoc}
 use native.Mathlib.Omega.{arith}
 use native.Mathlib.Numerals.{add-one}
-use lib.ListN.{length, take, set, get_or, length-append}
-use lib.Seq.{sets, take-suc, length-take-le}
+use borrow.Rule.Slice.PartMut.{put_mid}
+use lib.ListN.{length, take, drop, set, get_or, length-append}
+use lib.Seq.{sets, sets-eq, drop-drop, take-suc, length-take-le}
 use Rattle.lists.proofs.Stores.{sets-append, set-behind}
 use Rattle.text.specs.Text.{decimal, line_text}
 use Rattle.text.specs.Digits.{last_digits, Put}
-use Rattle.text.proofs.Counting.{last-length}
+use Rattle.text.proofs.Counting.{last-length, decimal_digit}
 
 -- no digit is left
 pub spell-none : (l : List ℕ) (at i rest : ℕ) → i ≤ 0 → l ≡ sets l at (last_digits i rest)
@@ -51,6 +52,26 @@ pub line-more : {l m n : List ℕ} {at p q : ℕ} (w v : List ℕ) (ws : List (L
     → Put l at (line_text (w ∷ v ∷ ws)) n q
 unfolding line_text
 line-more w v ws a b = rw append_assoc at (put_both a b)
+
+-- one digit
+pub digit-put : (l : List ℕ) (at x : ℕ) → x < 10 → Put l at (decimal x) (set l at (48 + x)) (at + 1)
+digit-put l at x h =
+    let one = decimal_digit x h in
+    record { stored = ap (sets l at) one; place = ap (λ ds. at + length ds) one }
+
+-- bytes copied into a buffer
+pub bytes-put : (l bytes copied : List ℕ) (at : ℕ) → at + length bytes ≤ length l → copied ≡ bytes
+    → Put l at bytes (put_mid at (at + length bytes - at) l copied) (at + length bytes)
+bytes-put l bytes copied at h e =
+    let size : at + length bytes - at ≡ length bytes = omega arith in
+    record {
+      stored =
+          ap (λ t. take at l ++ (t ++ drop (at + length bytes - at) (drop at l))) e
+          ∙ ap (λ k. take at l ++ (bytes ++ drop k (drop at l))) size
+          ∙ ap (λ r. take at l ++ (bytes ++ r)) (drop-drop (length bytes) at l)
+          ∙ sym (append_assoc (take at l) bytes (drop (at + length bytes) l)) ∙ sym (sets-eq bytes l at h);
+      place = refl;
+    }
 
 -- bytes stored one behind the other
 pub bytes-more : (l bytes : List ℕ) (at i : ℕ) → i < length bytes → set (sets l at (take i bytes)) (at + i) (get_or bytes i 0) ≡ sets l at (take (i + 1) bytes)

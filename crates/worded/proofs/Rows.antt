@@ -4,7 +4,7 @@ use mathlib.Core.Path.{◌≡◌, refl, sym, ap, ap₂, ◌∙◌, subst}
 use mathlib.Core.List.{List, [], ◌∷◌, ◌++◌, append-nil, append_assoc}
 use native.Mathlib.Omega.{arith}
 use lib.ListN.{length, get_or, take, drop, length-drop}
-use lib.Seq.{drop-drop, get_or-drop}
+use lib.Seq.{drop-drop, get_or-take}
 use Rattle.text.specs.Text.{decimal}
 use Rattle.text.specs.Digits.{Put, spaced}
 use Rattle.text.proofs.Spelling.{put_both, line-end, line-more}
@@ -77,7 +77,7 @@ zero-rows numbers bytes = refl
 
 module _ {count : ℕ} {numbers bytes lent out : List ℕ} {place at i : ℕ} (o : Rowed count numbers bytes lent out place at i) where
   pub rows_more : i < count → (name : Name) → name.id ≡ id_read (read_from (drop at bytes)) → name.size ≡ size_read (read_from (drop at bytes))
-      → {after : List ℕ} {past : ℕ} → Put out place (worded_row (take 6 (drop (i * 6) numbers)) (get_or numbers (i * 6 + 2) 0) name.id) after past
+      → {after : List ℕ} {past : ℕ} → Put out place (worded_row (take 6 (drop (i * 6) numbers)) (get_or (take 6 (drop (i * 6) numbers)) 2 0) name.id) after past
       → past ≤ place + 134 → length after ≡ length out → Rowed count numbers bytes lent after past (at + name.size) (i + 1)
   rows_more h name n z {after} {past} p b s = record {
     done = o.done ++ row;
@@ -91,7 +91,7 @@ module _ {count : ℕ} {numbers bytes lent out : List ℕ} {place at i : ℕ} (o
   }
     where
       row : List ℕ
-      row = worded_row (take 6 (drop (i * 6) numbers)) (get_or numbers (i * 6 + 2) 0) name.id
+      row = worded_row (take 6 (drop (i * 6) numbers)) (get_or (take 6 (drop (i * 6) numbers)) 2 0) name.id
 
       more : (i + 1) * 134 ≡ i * 134 + 134
       more = omega arith
@@ -100,7 +100,7 @@ module _ {count : ℕ} {numbers bytes lent out : List ℕ} {place at i : ℕ} (o
       left = omega arith
 
       here : worded_row (take 6 (drop (i * 6) numbers)) (get_or (drop (i * 6) numbers) 2 0) (id_read (read_from (drop at bytes))) ≡ row
-      here = ap₂ (λ a d. worded_row (take 6 (drop (i * 6) numbers)) a d) (get_or-drop (i * 6) numbers 2 0) (sym n)
+      here = ap₂ (λ a d. worded_row (take 6 (drop (i * 6) numbers)) a d) (sym (get_or-take 6 (drop (i * 6) numbers) 2 0 (omega arith))) (sym n)
 
       next : worded_rows (count - (i + 1)) (drop 6 (drop (i * 6) numbers)) (drop (size_read (read_from (drop at bytes))) (drop at bytes))
           ≡ worded_rows (count - (i + 1)) (drop ((i + 1) * 6) numbers) (drop (at + name.size) bytes)

@@ -1,7 +1,7 @@
 // Lines of a recording with the ids of their events and the answers in words: `plan --words`.
 #![tactic(auto)]
 
-ghost use Rattle.std.specs.Prelude.{◌≡◌, [], ◌∷◌, ◌++◌, ◌+◌, ◌*◌, ◌≤◌, length, get_or, take, drop};
+ghost use Rattle.std.specs.Prelude.{◌≡◌, [], ◌∷◌, ◌++◌, ◌+◌, ◌*◌, ◌≤◌, length, get_or, drop};
 ghost use Rattle.lists.specs.Lists.{over_front};
 ghost use Rattle.text.specs.Digits.{Put};
 ghost use Rattle.events.specs.Records.{id_of, read_from};
@@ -49,21 +49,21 @@ fn put_name(out: &mut [u8], at: usize, name: Name) -> usize
     ensures upper_bound { result ≤ at + 11 }
 {
     match name.id {
-        Some(id) => text::put_ended(out, at, id, b' '),
+        Some(id) => text::put_ended::<10>(out, at, u64::from(id), b' '),
         None => text::put_bytes(out, at, b"- "),
     }
 }
 
 // A line of six numbers with an id and the answer in words; the place after it.
-fn put_row(out: &mut [u8], at: usize, numbers: &[u32], from: usize, name: Name) -> usize
-    requires { (at + 134 ≤ length out.old) × (from + 6 ≤ length numbers.now) }
-    ensures put { Put out.old at (worded_row (take 6 (drop from numbers.now)) (get_or numbers.now (from + 2) 0) name.id) out.new result }
+fn put_row(out: &mut [u8], at: usize, row: &[u32], name: Name) -> usize
+    requires { (at + 134 ≤ length out.old) × (length row.now ≡ 6) }
+    ensures put { Put out.old at (worded_row row.now (get_or row.now 2 0) name.id) out.new result }
     ensures upper_bound { result ≤ at + 134 }
 {
-    let answer = numbers[from + 2];
-    let id_at = text::put_spaced(out, at, numbers, from, 6);
+    let answer = row[2];
+    let id_at = text::put_spaced(out, at, row);
     let answer_at = put_name(out, id_at, name);
-    let words_at = text::put_ended(out, answer_at, answer, b' ');
+    let words_at = text::put_ended::<10>(out, answer_at, u64::from(answer), b' ');
     let end = answer_words::put_answer(out, words_at, answer);
     text::put_bytes(out, end, b"\n")
 }
@@ -77,12 +77,10 @@ pub fn put_rows(out: &mut [u8], numbers: &[u32], count: usize, bytes: &[u8]) -> 
 {
     let mut place: usize = 0;
     let mut at: usize = 0;
-    let mut i: usize = 0;
-    while i < count {
+    for i in 0..count {
         let name = next_name(bytes, at);
-        place = put_row(out, place, numbers, i * 6, name);
+        place = put_row(out, place, &numbers[i * 6..i * 6 + 6], name);
         at += name.size;
-        i += 1;
     }
     place
 }

@@ -13,7 +13,7 @@ returns-then-board-eq1 c =
     let yes : eqb c.args.board.device.grid 1 ≡ true = eq-eqb _ 1 c.if-board-eq1.true in
     let p = c.put_words.ensures in
     record {
-      put = rw yes p.put;
+      put = rw yes (rw (c.from.ensures, c.from-2.ensures) at p.put);
       upper_bound = omega (arith, p.upper_bound);
     }
 
@@ -23,6 +23,6 @@ returns c =
     let no : eqb c.args.board.device.grid 1 ≡ false = ne_eqb _ 1 c.if-board-eq1.false in
     let p = c.put_words-2.ensures in
     record {
-      put = rw no p.put;
+      put = rw no (rw (c.from.ensures, c.from-2.ensures, c.from-3.ensures) at p.put);
       upper_bound = omega (arith, p.upper_bound);
     }

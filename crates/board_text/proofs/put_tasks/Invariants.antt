@@ -1,5 +1,5 @@
 -- `board_text::put_tasks` meets its contract: one slot more each turn. Assumes nothing.
-use Prim.Native.Nat.{◌+◌, ◌-◌, ◌*◌, ◌≤◌}
+use Prim.Native.Nat.{◌+◌, ◌*◌, ◌≤◌}
 use mathlib.Core.Path.{◌≡◌}
 use lib.ListN.{length, take}
 use Rattle.text.specs.Digits.{Put}
@@ -8,8 +8,5 @@ use Rattle.board_text.proofs.put_tasks.Given as goal
 
 abbrev pub invariant-loop-i : goal.invariant-loop-i
 invariant-loop-i l =
-    (l.i ≤ 64) × (length l.tasks ≡ 64) × (length l.shown ≡ 64) × (l.place ≤ l.at + l.i * 117) × (length l.out ≡ length l.initial.out)
-    × Put l.initial.out l.at (tasks_text 1 (take l.i l.tasks) (take l.i l.shown)) l.out l.place
+    (length l.tasks ≡ 64) × (length l.shown ≡ 64) × (l.place ≤ l.at + l.i * 117) × Put l.initial.out l.at (tasks_text 1 (take l.i l.tasks) (take l.i l.shown)) l.out l.place
 
-abbrev pub decreases-loop-i : goal.decreases-loop-i
-decreases-loop-i l = 64 - l.i

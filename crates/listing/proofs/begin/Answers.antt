@@ -4,4 +4,4 @@ use Rattle.listing.proofs.begin.Goals as goal
 
 pub returns : goal.returns
 unfolding first_listing
-returns c = λ i. record { reader = c.begin-reader.ensures i; words = c.args.words }
+returns c = λ i. record { reader = c.begin.ensures i; words = c.args.words }

@@ -1,5 +1,5 @@
 -- `sheets::add` meets its contract: one figure more each turn. Assumes nothing.
-use Rattle.std.proofs.Common.{◌≡◌, length, arith, rules}
+use Rattle.std.proofs.Common.{◌≡◌, refl, length, arith, rules}
 use Rattle.sheets.proofs.Laws.{added_none, added_more, added-all}
 use Rattle.sheets.proofs.add.Goals as goal
 
@@ -8,7 +8,7 @@ loop-i-init c =
     let a = c.args in
     let x : length a.a.now ≡ 83 = search rules in
     let y : length a.b.now ≡ 83 = search rules in
-    (omega arith, added_none a.a.now a.b.now (cc) _ (cc))
+    added_none a.a.now a.b.now (cc) _ (cc)
 
 pub loop-i-preserved : goal.loop-i-preserved
 loop-i-preserved c =
@@ -16,7 +16,7 @@ loop-i-preserved c =
     let a = c.args in
     let x : length a.a.now ≡ 83 = search rules in
     let y : length a.b.now ≡ 83 = search rules in
-    (omega arith, added_more a.a.now a.b.now (cc) l.i (omega arith) l.invariant.1 c.wrapping_add_u64.ensures.value c.fits-fit.ensures)
+    added_more a.a.now a.b.now (cc) l.i (omega arith) l.invariant refl c.fits-fit.ensures
 
 pub returns : goal.returns
 returns c =
@@ -24,5 +24,5 @@ returns c =
     let a = c.args in
     let x : length a.a.now ≡ 83 = search rules in
     let y : length a.b.now ≡ 83 = search rules in
-    let all = added-all a.a.now a.b.now (cc) (omega arith) l.invariant.1 in
+    let all = added-all a.a.now a.b.now (cc) (omega arith) l.invariant in
     cc

@@ -8,6 +8,6 @@ pub returns : goal.returns
 unfolding foot_text
 returns c =
     record {
-      put = put_both c.put_named-classless_end.ensures.put (put_both c.put_named-events_end.ensures.put (put_both c.put_named-files_end.ensures.put c.put.ensures.put));
-      upper_bound = omega (arith, c.put_named-classless_end.ensures.upper_bound, c.put_named-events_end.ensures.upper_bound, c.put_named-files_end.ensures.upper_bound, c.put.ensures.value);
+      put = put_both c.put_named-classless_end.ensures.put (put_both c.put_named-events_end.ensures.put (put_both c.put_named-files_end.ensures.put c.put_bytes.ensures.put));
+      upper_bound = omega (arith, c.put_named-classless_end.ensures.upper_bound, c.put_named-events_end.ensures.upper_bound, c.put_named-files_end.ensures.upper_bound, c.put_bytes.ensures.value);
     }

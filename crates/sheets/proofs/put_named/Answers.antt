@@ -6,6 +6,6 @@ use Rattle.sheets.proofs.put_named.Goals as goal
 pub returns : goal.returns
 returns c =
     record {
-      put = put_both c.put-figure_at.ensures.put c.put_wide.ensures.put;
+      put = put_both c.put_bytes-figure_at.ensures.put c.put_number.ensures.put;
       upper_bound = omega arith;
     }

@@ -1,12 +1,13 @@
 -- `sheets::put_row` meets its contract: names, figures, and two of them as a ratio. Assumes nothing.
-use Rattle.std.proofs.Common.{arith}
-use Rattle.sheets.proofs.Rows.{row_put}
+use Rattle.std.proofs.Common.{◌≡◌, ◌+◌, ◌-◌, ◌*◌, arith}
+use Rattle.sheets.specs.Sheets.{row_in}
+use Rattle.sheets.proofs.Rows.{row-line}
 use Rattle.sheets.proofs.put_row.Goals as goal
 
-pub returns : goal.returns
-returns c =
-    let a = c.args in record {
-      put = row_put a.figures.now a.row c.put_planner-class_at.ensures.put c.put_class-figures_at.ensures.put c.put_figures-ratio_at.ensures.put c.put_figure-over_at.ensures.put
-          c.put_figure.ensures.put;
-      upper_bound = omega (arith, c.put_planner-class_at.ensures.upper_bound, c.put_class-figures_at.ensures.upper_bound, c.put_figures-ratio_at.ensures.upper_bound, c.put_figure-over_at.ensures.upper_bound, c.put_figure.ensures.upper_bound);
-    }
+pub returns-clause-put : goal.returns-clause-put
+unfolding row_in
+returns-clause-put c =
+    let r = c.args.row in
+    let size : r * 5 + 5 - r * 5 ≡ 5 = omega arith in
+    row-line _ _ _ (rw c.planner_word.ensures.word at c.put_bytes-class_at.ensures.put) (rw c.class_word.ensures.word at c.put_bytes-figures_at.ensures.put)
+    (rw size at c.put_figures-ratio_at.ensures.put) (rw size at c.put_ended-over_at.ensures.put) (rw size at c.put_ended.ensures.put)

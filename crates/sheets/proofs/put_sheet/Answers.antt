@@ -8,6 +8,6 @@ pub returns : goal.returns
 unfolding sheet_text
 returns c =
     record {
-      put = put_both c.put-rows_at.ensures.put (put_both c.put_rows-foot_at.ensures.put c.put_foot.ensures.put);
+      put = put_both c.put_bytes-rows_at.ensures.put (put_both c.put_rows-foot_at.ensures.put c.put_foot.ensures.put);
       upper_bound = omega arith;
     }

@@ -1,12 +1,11 @@
 -- `stops::put_progress` meets its contract. Assumes nothing.
-use native.Mathlib.Omega.{arith}
-use Rattle.stops.proofs.Putting.{put-text, progress-put}
+use Rattle.text.specs.Text.{ascii}
+use Rattle.text.proofs.Spelling.{put_both}
+use Rattle.stops.specs.Stops.{progress_text}
 use Rattle.stops.proofs.put_progress.Goals as goal
 
-pub returns : goal.returns
-returns c =
-    let a = c.args in record {
-      put = progress-put a.files a.events (put-text c.put_bytes-files_at.ensures.value c.put_bytes-files_at.ensures.out_after) c.put_wide-after_files.ensures.put (put-text c.put_bytes-events_at.ensures.value c.put_bytes-events_at.ensures.out_after)
-          (put-text c.put_decimal-after_events.ensures.value c.put_decimal-after_events.ensures.out_after) (put-text c.put_bytes.ensures.value c.put_bytes.ensures.out_after);
-      upper_bound = omega (arith, c.put_bytes-files_at.ensures.value, c.put_wide-after_files.ensures.upper_bound, c.put_bytes-events_at.ensures.value, c.put_decimal-after_events.ensures.upper_bound, c.put_bytes.ensures.value);
-    }
+pub returns-clause-put : goal.returns-clause-put
+unfolding progress_text
+returns-clause-put c =
+    put_both {xs = ascii "summary: file "} c.put_bytes-files_at.ensures.put (put_both c.put_number-after_files.ensures.put (put_both {xs = ascii ", "} c.put_bytes-events_at.ensures.put
+    (put_both (rw c.from.ensures at c.put_number-after_events.ensures.put) c.put_bytes.ensures.put)))

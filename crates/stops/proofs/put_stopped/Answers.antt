@@ -1,24 +1,14 @@
 -- `stops::put_stopped` meets its contract. Assumes nothing.
+use Prim.Native.Nat.{suc, ◌+◌}
+use mathlib.Core.Path.{◌≡◌}
+use mathlib.Core.List.{append_assoc}
 use native.Mathlib.Omega.{arith}
-use Rattle.stops.proofs.Putting.{put-text, next-number, stopped-put}
+use Rattle.text.proofs.Spelling.{put_both}
+use Rattle.stops.specs.Stops.{stopped_at}
 use Rattle.stops.proofs.put_stopped.Goals as goal
 
-pub returns : goal.returns
-returns c =
-    let a = c.args in record {
-      put = stopped-put a.number.now a.name.now _ a.kind (put-text c.put_bytes-name_at.ensures.value c.put_bytes-name_at.ensures.out_after) (put-text c.put_bytes-after_name.ensures.value c.put_bytes-after_name.ensures.out_after)
-          (put-text c.put_bytes-event_at.ensures.value c.put_bytes-event_at.ensures.out_after) (next-number a.before c.put_long-after_event.ensures.value c.put_long-after_event.ensures.out_after)
-          (put-text c.put_bytes-kind_at.ensures.value c.put_bytes-kind_at.ensures.out_after) c.put_ended.ensures.put;
-      upper_bound = omega (
-        arith,
-        c.requires.0,
-        c.requires.1,
-        c.requires.2,
-        c.put_bytes-name_at.ensures.value,
-        c.put_bytes-after_name.ensures.value,
-        c.put_bytes-event_at.ensures.value,
-        c.put_long-after_event.ensures.upper_bound,
-        c.put_bytes-kind_at.ensures.value,
-        c.put_ended.ensures.upper_bound,
-      );
-    }
+pub returns-clause-put : goal.returns-clause-put
+unfolding stopped_at
+returns-clause-put c =
+    let next : c.from.result + 1 ≡ suc c.args.before = omega arith in
+    put_both c.put_bytes-name_at.ensures.put (put_both c.put_bytes-after_name.ensures.put (put_both c.put_bytes-event_at.ensures.put (rw append_assoc at (put_both (rw next at c.put_ended-kind_at.ensures.put) (rw c.from-2.ensures at c.put_ended.ensures.put)))))

@@ -1,26 +1,20 @@
 -- `text::put_spaced` meets its contract: one number more each turn. Assumes nothing.
-use mathlib.Core.Path.{◌≡◌, refl}
 use native.Mathlib.Omega.{arith}
-use Rattle.text.proofs.Rows.{words-none, words_more}
-use borrow.Author.Rules.{rules}
+use Rattle.text.proofs.Rows.{words-none, words_more, words-all}
 use Rattle.text.proofs.put_spaced.Goals as goal
 
-pub loop-i-init : goal.loop-i-init
-loop-i-init c = (omega arith, omega arith, refl, words-none _ c.args.words.now _ c.args.from)
+pub loop-word-init : goal.loop-word-init
+loop-word-init c = (omega arith, words-none _ c.args.words.now _)
 
-pub loop-i-preserved : goal.loop-i-preserved
-loop-i-preserved c =
-    let l = c.loop-i in
-    let a = c.args in
-    let p = c.put_ended-place.ensures in
-    (omega arith, omega arith, search rules, words_more a.words.now a.from l.i (omega arith) l.invariant.3 p.put)
+pub loop-word-preserved : goal.loop-word-preserved
+loop-word-preserved c =
+    let l = c.loop-word in
+    (omega arith, words_more c.args.words.now l.word-index (omega arith) c.from.ensures l.invariant.1 c.put_ended-place.ensures.put)
 
 pub returns : goal.returns
 returns c =
-    let l = c.loop-i in
-    let a = c.args in
-    let e : l.i ≡ a.n = omega arith in
+    let l = c.loop-word in
     record {
-      put = rw e at l.invariant.3;
+      put = words-all c.args.words.now c.loop-word-test.false l.invariant.1;
       upper_bound = omega arith;
     }

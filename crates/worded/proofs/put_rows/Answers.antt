@@ -1,10 +1,10 @@
 -- `worded::put_rows` meets its contract: one line more each turn. Assumes nothing.
-use Prim.Native.Nat.{◌*◌, ◌≤◌}
-use mathlib.Core.Path.{◌∙◌}
+use Prim.Native.Nat.{◌+◌, ◌-◌, ◌*◌, ◌≤◌}
+use mathlib.Core.Path.{◌≡◌, ◌∙◌}
 use native.Mathlib.Nat.{zero-add}
 use native.Mathlib.Omega.{arith}
 use lib.ListN.{length}
-use Rattle.text.proofs.Rows.{rows-front, turn-fits}
+use Rattle.text.proofs.Rows.{rows-front}
 use Rattle.worded.proofs.Rows.{rows-begin, rows_more, record-there, rows_end}
 use borrow.Author.Rules.{rules}
 use mir.Syntax.{w64}
@@ -14,18 +14,6 @@ use Rattle.worded.proofs.put_rows.Goals as goal
 pub loop-i-init : goal.loop-i-init
 loop-i-init c = let a = c.args in rows-begin a.count a.numbers.now a.bytes.now a.out.now
 
-pub overflow_mul-i : goal.overflow_mul-i
-overflow_mul-i c =
-    let turn = turn-fits c.loop-i.i c.args.count 6 (omega arith) in
-    search rules
-
-pub put_row-place-requires : goal.put_row-place-requires
-put_row-place-requires c =
-    let o = c.loop-i.invariant in
-    let turn = turn-fits c.loop-i.i c.args.count 6 (omega arith) in
-    let room = turn-fits c.loop-i.i c.args.count 134 (omega arith) in
-    (omega (arith, o.within, o.size), omega arith)
-
 pub overflow_add-at : goal.overflow_add-at
 overflow_add-at c =
     let bytes_fit : Fits w64 (length c.args.bytes.now) = search rules in
@@ -33,7 +21,8 @@ overflow_add-at c =
 
 pub loop-i-preserved : goal.loop-i-preserved
 loop-i-preserved c =
-    rows_more c.loop-i.invariant (omega arith) c.next_name-name.result c.next_name-name.ensures.0 c.next_name-name.ensures.1 c.put_row-place.ensures.put c.put_row-place.ensures.upper_bound (search rules)
+    let size : c.loop-i.i * 6 + 6 - c.loop-i.i * 6 ≡ 6 = omega arith in
+    rows_more c.loop-i.invariant (omega arith) c.next_name-name.result c.next_name-name.ensures.0 c.next_name-name.ensures.1 (rw size at c.put_row-place.ensures.put) c.put_row-place.ensures.upper_bound (search rules)
 
 pub shape_of-out : goal.shape_of-out
 shape_of-out c = c.loop-i.invariant.size

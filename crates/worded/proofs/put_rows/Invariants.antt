@@ -1,11 +1,7 @@
 -- `worded::put_rows` meets its contract: one line more each turn. Assumes nothing.
-use Prim.Native.Nat.{◌-◌}
 use Rattle.worded.proofs.Rows.{Rowed}
 use Rattle.worded.proofs.put_rows.Given as goal
 
 abbrev pub invariant-loop-i : goal.invariant-loop-i
 invariant-loop-i l =
     Rowed l.count l.numbers l.bytes l.initial.out l.out l.place l.at l.i
-
-abbrev pub decreases-loop-i : goal.decreases-loop-i
-decreases-loop-i l = l.count - l.i
