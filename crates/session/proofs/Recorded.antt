@@ -13,10 +13,9 @@ use Rattle.steps.specs.declared.State.{State}
 use Rattle.events.specs.declared.Event.{Event}
 use Rattle.events.specs.declared.Reading.{Reading}
 use Rattle.events.specs.declared.Reading.TheVariants.{End, Got, CutShort, Unknown}
-use Rattle.events.specs.Records.{kind_of, read_from}
+use Rattle.events.specs.Records.{read_from}
 use Rattle.events.proofs.Calls.{taken-there}
 use Rattle.events.proofs.Pieces.{got-longer}
-use Rattle.board.specs.Answers.{bare}
 use Rattle.session.specs.declared.Ending.TheVariants.{AtEnd, In15, In16, AtLast, PastLast}
 use Rattle.session.specs.Recording.{Line, line_of, stop_line, outcome, Story, ends_in, story_from, Run, still, ran_from}
 use Rattle.session.proofs.Running.{ran-got, ran-none}

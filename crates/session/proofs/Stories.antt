@@ -4,11 +4,10 @@ use mathlib.Core.Path.{◌≡◌, refl, sym, ap, ◌∙◌}
 use mathlib.Core.List.{List, [], ◌∷◌, ◌++◌}
 use native.Mathlib.Omega.{arith}
 use lib.ListN.{length, drop}
-use Rattle.board.specs.Answers.{bare}
 use Rattle.steps.specs.declared.State.{State}
 use Rattle.events.specs.declared.Reading.{Reading}
 use Rattle.events.specs.declared.Reading.TheVariants.{End, Got, CutShort, Unknown}
-use Rattle.events.specs.Records.{kind_of, read_from}
+use Rattle.events.specs.Records.{read_from}
 use Rattle.session.specs.declared.Ending.{Ending}
 use Rattle.session.specs.declared.Ending.TheVariants.{NotYet, AtEnd, In15, In16, AtLast, PastLast}
 use Rattle.session.specs.Recording.{Line, line_of, stop_line, outcome, Story, ends_in, story_from, Run, still, ran_from}
