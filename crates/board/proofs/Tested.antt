@@ -8,7 +8,7 @@ use native.Mathlib.Omega.{arith}
 use lib.Dec.{T, ltb, eqb, eqb→eq}
 use lib.ListN.{length, get_or, set}
 use Rattle.lists.specs.Lists.{◌∈◌, some?, index_of}
-use Rattle.lists.proofs.Bools.{and_l, and_r, and_i, not-not, is_true, same_bool}
+use Rattle.lists.proofs.Bools.{and_l, and_r, and_i, same_bool}
 use Rattle.lists.proofs.Members.{some-pass, pass-some, get_or-in, in-keep}
 use Rattle.lists.proofs.Order.{sorted-compare}
 use Rattle.lists.proofs.Append.{index-test, put-index, index-passes}
@@ -18,7 +18,7 @@ use Rattle.tasks.specs.Tasks.{live, waiting_phase, free_slot}
 use Rattle.slots.specs.Slots.{named, known, begun_named, without_named}
 use Rattle.slots.proofs.Soundness.{Sound, Together, sound-out}
 use Rattle.refusals.specs.Refusals.{instant_tests, withdraw_tests}
-use Rattle.refusals.proofs.First.{refused-by, none-holds, sound-passes, unsound-refused}
+use Rattle.refusals.proofs.First.{refused-by, sound-passes, unsound-refused}
 use Rattle.std.proofs.Common.{None, Some}
 use Rattle.std.specs.List.{position}
 use borrow.Author.Tests.{lt-ltb}
@@ -149,9 +149,6 @@ module _ (b : Board) (n : ℕ) (good : sound_board b ≡ true) {has begun : Bool
       go zero z l = absurd (omega arith)
       go (suc k) z l = unfold withdrawn or_refused in rw z
 
-  withdrawn-known : r ≡ 0 → has ≡ true
-  withdrawn-known z = is_true has (not-not has (none-holds 13 (not has) _ (omega arith) (sym e ∙ z)).0)
-
   pub withdrawn-freed : {slot : ℕ} → slot ≡ index_of (named n) b.tasks → r ≡ 0
       → withdrawn b n ≡ record { number = 0; board = with_tasks b (set b.tasks slot free_slot) }
   unfolding withdrawn or_refused without_named
@@ -161,7 +158,10 @@ module _ (b : Board) (n : ℕ) (good : sound_board b ≡ true) {has begun : Bool
       (put-index (named n) free_slot b.tasks ∙ ap (λ j. set b.tasks j free_slot) (sym at)))
 
 -- 13, where no live task has the id
-pub withdrawn-nowhere : (b : Board) (n : ℕ) → sound_board b ≡ true → None ≡ position (named n) b.tasks → withdrawn b n ≡ record { number = 13; board = b }
+pub withdrawn-nowhere : (b : Board) (n : ℕ) → sound_board b ≡ true → known n b.tasks ≡ false → withdrawn b n ≡ record { number = 13; board = b }
 withdrawn-nowhere b n good e =
-    withdrawn-refused b n good {has = false} {begun = false} (unfold known in place-none (named n) b.tasks (sym e)) (λ q. cc)
-    (sym (refused-by 13 true _ refl)) (omega arith)
+    withdrawn-refused b n good {has = false} {begun = false} e (λ q. cc) (sym (refused-by 13 true _ refl)) (omega arith)
+
+pub place-nowhere : (b : Board) (n : ℕ) → None ≡ position (named n) b.tasks → known n b.tasks ≡ false
+unfolding known
+place-nowhere b n e = place-none (named n) b.tasks (sym e)

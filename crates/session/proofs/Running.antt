@@ -16,6 +16,8 @@ use Rattle.tasks.specs.declared.Task.{Task}
 use Rattle.slots.specs.Slots.{sound, all_aged_to}
 use Rattle.slots.proofs.Soundness.{sound-out}
 use Rattle.slots.proofs.Ageing.{aged-now}
+use Rattle.std.proofs.Common.{Option}
+use Rattle.std.specs.Option.{is_some}
 use Rattle.survey.specs.declared.Findings.{Findings}
 use Rattle.soundness.specs.Tested.{Stood}
 use Rattle.events.specs.declared.Event.{Event}
@@ -99,11 +101,11 @@ pub record Running (b : State) (number most : ℕ) (bytes lent answers : List �
   pub inside : at ≤ length bytes
 
 -- AT THE BEGIN: the board that was handed over, tested once
-pub run-begin : (tasks : List Task) (clock : ℕ) (D : Device) (number most : ℕ) (bytes lent live masks : List ℕ) (v : Findings) → Stood D clock tasks live masks v
-    → let d : Brief = record { clock = clock; device = D; count = v.count; used = v.used; sound = v.sound } in
+pub run-begin : (tasks : List Task) (clock : ℕ) (D : Device) (number most : ℕ) (bytes lent live masks : List ℕ) (r : Option Findings) → Stood D clock tasks live masks r
+    → let d : Brief = record { clock = clock; device = D; found = r } in
     Running (state_of tasks d) number most bytes lent lent tasks live masks d 0 0 0
 unfolding line_numbers
-run-begin tasks clock D number most bytes lent live masks v o = record {
+run-begin tasks clock D number most bytes lent live masks r o = record {
   slots = tasks;
   keeps = record {
     slots = o.tested.slots;
@@ -112,10 +114,10 @@ run-begin tasks clock D number most bytes lent live masks v o = record {
     good = sym o.tested.sound;
     kept = o.tested.kept;
     masked = o.masked;
-    used = λ u. o.tested.used;
+    used = o.tested.used;
   };
   size = o.tested.slots;
-  records = as-booked v.sound o.tested.sound;
+  records = as-booked (is_some r) o.tested.sound;
   done = [];
   lines = ap (λ x. (ran_from x (begun) number bytes).lines) first ∙ ap (λ x. (ran_from (most - 0) (begun) x bytes).lines) start;
   state = ap (λ x. (ran_from x (begun) number bytes).state) first ∙ ap (λ x. (ran_from (most - 0) (begun) x bytes).state) start;

@@ -73,7 +73,7 @@ pub fn room(words: usize, number: u32) -> usize
 fn brought(tasks: [Task; 64], d: Brief) -> [Task; 64]
     ensures { result ≡ as_booked d tasks }
 {
-    if d.sound {
+    if d.found.is_some() {
         return slots::all_aged(tasks, d.clock);
     }
     tasks
@@ -91,13 +91,11 @@ pub fn run(state: State, number: u32, bytes: &[u8], answers: &mut [u32]) -> Ran
     let on = board.device;
     let mut live = [0u32; 384];
     let mut masks = [0u64; 256];
-    let v = soundness::stand(on, board.now, tasks, &mut live, &mut masks);
+    let found = soundness::stand(on, board.now, tasks, &mut live, &mut masks);
     let mut d = Brief {
         clock: board.now,
         device: on,
-        count: v.count,
-        used: v.used,
-        sound: v.sound,
+        found,
     };
     let most = room(answers.len(), number);
     let mut at: usize = 0;

@@ -5,7 +5,7 @@ use mathlib.Core.Bool.{Bool, true, false, not, cond, ◌&&◌, ◌||◌}
 use mathlib.Core.List.{List, [], ◌∷◌, map}
 use native.Mathlib.Omega.{arith}
 use native.Mathlib.Decide.{dec_lt}
-use borrow.Author.Tests.{lt-ltb, le-ltb, le-leb, lt-leb, ltb-true, eqb-true}
+use borrow.Author.Tests.{lt-ltb, le-ltb, le-leb, lt-leb, eqb-true}
 use lib.Dec.{T, leb, ltb, eqb, nltb→le, eqb→eq, not_T}
 use lib.ListN.{get_or, set, replicate, length-set, length-replicate, get_or-replicate}
 use Rattle.lists.specs.Lists.{some?, index_of, range}
@@ -23,11 +23,14 @@ use Rattle.words.proofs.Digits.{bit-of-zero}
 use Rattle.slots.specs.Slots.{sound, named, known, begun_named, aged_to, all_aged_to}
 use Rattle.slots.proofs.Soundness.{InPhase, running, waiting, SoundTask, Together, Sound, sound-out, sound-in}
 use Rattle.slots.proofs.Ageing.{aged-free-slot, aged-length, aged-stands, stamped-live, aged-sound, aged-now, aged-twice}
-use Rattle.live.specs.Live.{from_at, id_at, slot_at, Falling, After}
-use Rattle.live.specs.Kept.{Stands, Closed, Inserted, lowest_free}
+use Rattle.live.specs.Live.{Masked, from_at, id_at, slot_at, Falling, After}
+use Rattle.live.specs.Kept.{Kept, InUse, Stands, Closed, Inserted, lowest_free}
 use Rattle.live.proofs.Standing.{room, inserted-stands, inserted-falling, inserted-masked, removed-stands, removed-falling, removed-masked, after-stands, after-falling, after-masked, no-tasks}
 use Rattle.live.proofs.InUse.{use-in, in-use-more, in-use-less, in-use-after}
 use Rattle.live.proofs.Planned.{start-at, id-at, known_same}
+use Rattle.std.proofs.Common.{Option, None, Some}
+use Rattle.std.specs.Option.{is_some}
+use Rattle.survey.specs.declared.Findings.{Findings}
 use Rattle.board.specs.declared.Board.{Board}
 use Rattle.board.specs.declared.Answer.{Answer}
 use Rattle.board.specs.declared.Answer.TheVariants.{Rejected, Placed, Refused}
@@ -38,7 +41,7 @@ use Rattle.board.specs.Calls.{or_refused, fresh_board, zero_board, created, subm
 use Rattle.board.specs.Standing.{board_of}
 use Rattle.refusals.proofs.First.{refused-by, passed_over_lem, none-holds}
 use Rattle.board.proofs.Kept.{SoundBoard, submitted-sound, clocked-done, withdrawn-stays-sound, created-sound, zero-unsound}
-use Rattle.board.proofs.Tested.{clocked-unsound, clocked-refused, slot-begun, withdrawn-unsound, withdrawn-refused, withdrawn-known, withdrawn-freed}
+use Rattle.board.proofs.Tested.{clocked-unsound, clocked-refused, slot-begun, withdrawn-unsound, withdrawn-nowhere, withdrawn-refused, withdrawn-freed}
 use Rattle.board.proofs.Submit.{submit-unsound}
 use Rattle.board.proofs.Placed.{BooksAt, placed-books, unplaced-same}
 use Rattle.events.specs.declared.Event.TheVariants.{Clock, Withdraw}
@@ -59,7 +62,11 @@ placed_at c t e d x = record { number = 0; column = c; start = t; finish = e; br
 
 -- a sound board with other tasks
 abbrev pub with_live : Brief → ℕ → ℕ → ℕ → Brief
-with_live d clock count used = record { clock = clock; device = d.device; count = count; used = used; sound = true }
+with_live d clock count used = record { clock = clock; device = d.device; found = Some (record { count = count; used = used }) }
+
+-- what was found is what is found
+same_found : (P : Findings → Type 0) {v w : Findings} → P v → ◌≡◌ {A = Option Findings} (Some v) (Some w) → P w
+same_found P {v} {w} p e = let q : v ≡ w = cc in subst P q p
 
 -- a record into a slot, before or after the slots are brought up to the clock
 aged-set : (i : ℕ) (ks : List Task) (n : ℕ) (k : Task) → all_aged_to i (set ks n k) ≡ set (all_aged_to i ks) n (aged_to i k)
@@ -100,9 +107,9 @@ module _ (d : Brief) (ks : List Task) {rows masks : List ℕ} (k : Keeps d ks ro
       (record { number = refl; column = refl; start = refl; finish = refl; clock = refl; device = refl; keeps = k; inside = omega arith; records = λ tasks z q. q })
 
   -- 1
-  module _ (u : d.sound ≡ false) where
+  module _ (u : d.found ≡ None) where
     unsound : sound_board b ≡ false
-    unsound = k.good ∙ u
+    unsound = k.good ∙ ap is_some u
 
     pub unsound-submit : (n : ℕ) (a : Submission) → submit_outcome (state_of ks d) n a ≡ record { answer = bare 1; state = state_of ks d }
     unfolding told
@@ -117,19 +124,19 @@ module _ (d : Brief) (ks : List Task) {rows masks : List ℕ} (k : Keeps d ks ro
     unsound-withdraw n = ap (λ x. record { answer = bare x.number; state = with_board (state_of ks d) x.board }) (withdrawn-unsound b n unsound)
 
   -- a board that is sound
-  module _ (u : d.sound ≡ true) where
+  module _ (v : Findings) (u : d.found ≡ Some v) where
     good : sound_board b ≡ true
-    good = k.good ∙ u
+    good = k.good ∙ ap is_some u
 
     pub stands : SoundBoard b
     stands = sound-out d.device d.clock ks (rw good tt)
 
-    abbrev table : Stands 64 ks d.count rows
-    table = (k.kept u).stands
+    abbrev table : Stands 64 ks v.count rows
+    table = (k.kept v u).stands
 
     -- what the records are
     booked-as : (tasks : List Task) → ks ≡ as_booked d tasks → ks ≡ all_aged_to d.clock tasks
-    booked-as tasks w = w ∙ ap (λ x. cond x (all_aged_to d.clock tasks) tasks) u
+    booked-as tasks w = w ∙ ap (λ x. cond (is_some x) (all_aged_to d.clock tasks) tasks) u
 
     -- 11, 12
     pub clock-refused : (i : ℕ) {r : ℕ} → r ≡ refusal (instant_tests d.clock i) → 0 < r → outcome (state_of ks d) (Clock i) ≡ record { answer = bare r; state = state_of ks d }
@@ -144,8 +151,8 @@ module _ (d : Brief) (ks : List Task) {rows masks : List ℕ} (k : Keeps d ks ro
         (nltb→le i d.clock r11.0, nltb→le last_instant i r12.0)
 
     -- THE CLOCK
-    pub step-clock : (i : ℕ) → d.clock ≤ i → i ≤ last_instant → {count : ℕ} → After rows d.count i count → (used : ℕ)
-        → ((j : ℕ) → j < 64 → bit used j ≡ (bit d.used j && not (some? (λ (p : ℕ). eqb j (slot_at rows p)) (range count (d.count - count)))))
+    pub step-clock : (i : ℕ) → d.clock ≤ i → i ≤ last_instant → {count : ℕ} → After rows v.count i count → (used : ℕ)
+        → ((j : ℕ) → j < 64 → bit used j ≡ (bit v.used j && not (some? (λ (p : ℕ). eqb j (slot_at rows p)) (range count (v.count - count)))))
         → Follows d ks (outcome (state_of ks d) (Clock i)) (numbered 0 (with_live d i count used) Nothing) rows masks
     unfolding outcome board_at changed
     step-clock i h q {count} a used f =
@@ -163,37 +170,37 @@ module _ (d : Brief) (ks : List Task) {rows masks : List ℕ} (k : Keeps d ks ro
             size = k.size;
             wide = k.wide;
             good = after;
-            kept = λ z. record { good = after; stands = after-stands table a falls; falling = after-falling table a falls };
-            masked = λ z. after-masked table a falls (k.masked u);
-            used = λ z. in-use-after table a falls (k.used u) used f;
+            kept = λ y. same_found (λ r. Kept d.device i (all_aged_to i ks) r.count rows) (record { good = after; stands = after-stands table a falls; falling = after-falling table a falls });
+            masked = λ y. same_found (λ r. Masked r.count rows masks) (after-masked table a falls (k.masked v u));
+            used = λ y. same_found (λ r. InUse 64 (all_aged_to i ks) r.used) (in-use-after table a falls (k.used v u) used f);
           };
           inside = omega arith;
           records = λ tasks z w. ap (all_aged_to i) (booked-as tasks w) ∙ aged-twice d.clock i tasks h;
         })
       where
-        falls : Falling d.count rows
-        falls = (k.kept u).falling
+        falls : Falling v.count rows
+        falls = (k.kept v u).falling
 
         after : sound d.device i (all_aged_to i ks) ≡ true
         after = is_true (sound d.device i (all_aged_to i ks)) (sound-in d.device i (all_aged_to i ks) (aged-sound d.device d.clock i ks stands h q))
 
     -- a live task has the id exactly if the table has it
-    known_at : (n p : ℕ) → Least (λ (i : ℕ). eqb (id_at rows i) n) 0 d.count p → known n ks ≡ ltb p d.count
-    known_at n p l = sym (known_same d.device d.clock ks d.count rows table good n) ∙ go (dec_lt p d.count)
+    known_at : (n p : ℕ) → Least (λ (i : ℕ). eqb (id_at rows i) n) 0 v.count p → known n ks ≡ ltb p v.count
+    known_at n p l = sym (known_same d.device d.clock ks v.count rows table good n) ∙ go (dec_lt p v.count)
       where
         has : ℕ → Bool
         has i = eqb (id_at rows i) n
 
-        go : Dec (p < d.count) → some? has (range 0 d.count) ≡ ltb p d.count
+        go : Dec (p < v.count) → some? has (range 0 v.count) ≡ ltb p v.count
         go (yes h) =
-            is_true (some? has (range 0 d.count)) (pass-some has (range 0 d.count) (in-range 0 d.count p (omega arith) (omega arith)) (rw (l.here h) tt))
-            ∙ sym (lt-ltb p d.count h)
+            is_true (some? has (range 0 v.count)) (pass-some has (range 0 v.count) (in-range 0 v.count p (omega arith) (omega arith)) (rw (l.here h) tt))
+            ∙ sym (lt-ltb p v.count h)
         go (no h) =
-            is_false (some? has (range 0 d.count))
-            (pass-none has (range 0 d.count) (λ i m. let w = range-in 0 d.count m in rw (l.before i (omega arith) (omega (arith, w.high))) tt))
-            ∙ sym (le-ltb p d.count (omega arith))
+            is_false (some? has (range 0 v.count))
+            (pass-none has (range 0 v.count) (λ i m. let w = range-in 0 v.count m in rw (l.before i (omega arith) (omega (arith, w.high))) tt))
+            ∙ sym (le-ltb p v.count (omega arith))
 
-    module _ (n p : ℕ) (l : Least (λ (i : ℕ). eqb (id_at rows i) n) 0 d.count p) (h : p < d.count) where
+    module _ (n p : ℕ) (l : Least (λ (i : ℕ). eqb (id_at rows i) n) 0 v.count p) (h : p < v.count) where
       abbrev slot : ℕ
       slot = slot_at rows p
 
@@ -207,7 +214,7 @@ module _ (d : Brief) (ks : List Task) {rows masks : List ℕ} (k : Keeps d ks ro
       there = (table.each p h).there
 
       is-named : task_there.id ≡ n
-      is-named = sym (id-at d.device d.clock ks d.count rows table good p h) ∙ eqb-true (id_at rows p) n (l.here h)
+      is-named = sym (id-at d.device d.clock ks v.count rows table good p h) ∙ eqb-true (id_at rows p) n (l.here h)
 
       -- the only slot of that id, and so the first
       pub slot_is : slot ≡ index_of (named n) ks
@@ -217,7 +224,7 @@ module _ (d : Brief) (ks : List Task) {rows masks : List ℕ} (k : Keeps d ks ro
           (λ q. is_true (named n task_there) (and_i (live task_there) (eqb task_there.id n) there (rw (eq-named) tt)))
         where
           eq-named : eqb task_there.id n ≡ true
-          eq-named = ap (λ x. eqb x n) (sym (id-at d.device d.clock ks d.count rows table good p h)) ∙ l.here h
+          eq-named = ap (λ x. eqb x n) (sym (id-at d.device d.clock ks v.count rows table good p h)) ∙ l.here h
 
           other : (j : ℕ) → j < slot → T (live (get_or ks j free_slot) && eqb (get_or ks j free_slot).id n) → ⊥
           other j q t =
@@ -228,7 +235,7 @@ module _ (d : Brief) (ks : List Task) {rows masks : List ℕ} (k : Keeps d ks ro
       task = stands.tasks task_there (get_or-in ks slot free_slot (omega (arith, k.slots, inside))) there
 
       begins : from_at rows p ≡ task_there.start
-      begins = start-at d.device d.clock ks d.count rows table good p h
+      begins = start-at d.device d.clock ks v.count rows table good p h
 
       -- it has begun exactly if its start has come
       has-begun : (x : Task) → InPhase d.clock x → not (waiting_phase x.phase) ≡ leb x.start d.clock
@@ -238,14 +245,24 @@ module _ (d : Brief) (ks : List Task) {rows masks : List ℕ} (k : Keeps d ks ro
       begun-at : begun_named n ks ≡ leb (from_at rows p) d.clock
       begun-at = slot-begun b n slot good slot_is inside ∙ has-begun task_there task.phase ∙ ap (λ x. leb x d.clock) (sym begins)
 
+      known-there : known n ks ≡ true
+      known-there = known_at n p l ∙ lt-ltb p v.count h
+
+      -- 14
+      pub withdraw-refused : {r : ℕ} → r ≡ refusal (withdraw_tests true (leb (from_at rows p) d.clock)) → 0 < r
+          → outcome (state_of ks d) (Withdraw n) ≡ record { answer = bare r; state = state_of ks d }
+      unfolding outcome
+      withdraw-refused e q =
+          ap (λ x. record { answer = bare x.number; state = with_board (state_of ks d) x.board }) (withdrawn-refused b n good known-there (λ t. begun-at) e q)
+
       -- WITHDRAWN
-      pub step-withdraw : {r : ℕ} → r ≡ refusal (withdraw_tests (ltb p d.count) (leb (from_at rows p) d.clock)) → r ≡ 0
-          → {next words : List ℕ} → Closed 6 d.count p rows next → Closed 4 d.count p masks words → (used : ℕ)
-          → ((j : ℕ) → j < 64 → bit used j ≡ (bit d.used j && not (eqb j slot)))
-          → Follows d ks (outcome (state_of ks d) (Withdraw n)) (numbered 0 (with_live d d.clock (d.count - 1) used) (Freed slot)) next words
+      pub step-withdraw : {r : ℕ} → r ≡ refusal (withdraw_tests true (leb (from_at rows p) d.clock)) → r ≡ 0
+          → {next words : List ℕ} → Closed 6 v.count p rows next → Closed 4 v.count p masks words → (used : ℕ)
+          → ((j : ℕ) → j < 64 → bit used j ≡ (bit v.used j && not (eqb j slot)))
+          → Follows d ks (outcome (state_of ks d) (Withdraw n)) (numbered 0 (with_live d d.clock (v.count - 1) used) (Freed slot)) next words
       unfolding outcome changed
       step-withdraw {r} e q {next} {words} c w used f =
-          subst (λ x. Follows d ks x (numbered 0 (with_live d d.clock (d.count - 1) used) (Freed slot)) next words)
+          subst (λ x. Follows d ks x (numbered 0 (with_live d d.clock (v.count - 1) used) (Freed slot)) next words)
           (sym (ap (λ x. record { answer = bare x.number; state = with_board (state_of ks d) x.board }) gone))
           (record {
             number = refl;
@@ -259,9 +276,10 @@ module _ (d : Brief) (ks : List Task) {rows masks : List ℕ} (k : Keeps d ks ro
               size = c.size ∙ k.size;
               wide = w.size ∙ k.wide;
               good = after;
-              kept = λ z. record { good = after; stands = removed-stands table h c; falling = removed-falling table h c (k.kept u).falling };
-              masked = λ z. removed-masked table h c w (k.masked u);
-              used = λ z. in-use-less k.slots (k.used u) used inside f;
+              kept = λ y. same_found (λ r. Kept d.device d.clock (set ks slot free_slot) r.count next)
+                  (record { good = after; stands = removed-stands table h c; falling = removed-falling table h c (k.kept v u).falling });
+              masked = λ y. same_found (λ r. Masked r.count next words) (removed-masked table h c w (k.masked v u));
+              used = λ y. same_found (λ r. InUse 64 (set ks slot free_slot) r.used) (in-use-less k.slots (k.used v u) used inside f);
             };
             inside = inside;
             records = λ tasks z v. ap (λ x. set x slot free_slot) (booked-as tasks v) ∙ sym (aged-set d.clock tasks slot free_slot
@@ -269,25 +287,20 @@ module _ (d : Brief) (ks : List Task) {rows masks : List ℕ} (k : Keeps d ks ro
           })
         where
           gone : withdrawn b n ≡ record { number = 0; board = board_of (set ks slot free_slot) d.clock d.device }
-          gone = withdrawn-freed b n good (known_at n p l) (λ t. begun-at) e slot_is q
+          gone = withdrawn-freed b n good known-there (λ t. begun-at) e slot_is q
 
           after : sound d.device d.clock (set ks slot free_slot) ≡ true
           after =
               is_true (sound d.device d.clock (set ks slot free_slot))
               (sound-in d.device d.clock (set ks slot free_slot) (subst (λ x. SoundBoard x.board) gone (withdrawn-stays-sound b n stands)))
 
-    -- 13, 14
-    module _ (n p : ℕ) (l : Least (λ (i : ℕ). eqb (id_at rows i) n) 0 d.count p) {r : ℕ}
-        (e : r ≡ refusal (withdraw_tests (ltb p d.count) (leb (from_at rows p) d.clock))) where
-      pub withdraw-refused : 0 < r → outcome (state_of ks d) (Withdraw n) ≡ record { answer = bare r; state = state_of ks d }
-      unfolding outcome
-      withdraw-refused h =
-          ap (λ x. record { answer = bare x.number; state = with_board (state_of ks d) x.board })
-          (withdrawn-refused b n good (known_at n p l) (λ t. begun-at n p l (ltb-true p d.count t)) e h)
-
-      pub withdraw-found : r ≡ 0 → p < d.count
-      withdraw-found z =
-          ltb-true p d.count (withdrawn-known b n good (known_at n p l) (λ t. begun-at n p l (ltb-true p d.count t)) e z)
+    -- 13
+    pub withdraw-nowhere : (n : ℕ) → Least (λ (i : ℕ). eqb (id_at rows i) n) 0 v.count v.count
+        → outcome (state_of ks d) (Withdraw n) ≡ record { answer = bare 13; state = state_of ks d }
+    unfolding outcome
+    withdraw-nowhere n l =
+        ap (λ x. record { answer = bare x.number; state = with_board (state_of ks d) x.board })
+        (withdrawn-nowhere b n good (known_at n v.count l ∙ le-ltb v.count v.count (omega arith)))
 
     -- 3 to 10
     pub step-unplaced : (n : ℕ) (a : Submission) (x : Answer) (m : ℕ) → x ≡ (submitted b n a).answer → ((c t e : ℕ) → x ≡ Placed c t e → ⊥) → told x ≡ bare m
@@ -324,15 +337,15 @@ module _ (d : Brief) (ks : List Task) {rows masks : List ℕ} (k : Keeps d ks ro
           not-false : T (not (live (get_or ks free free_slot))) → live (get_or ks free free_slot) ≡ false
           not-false t = is_false (live (get_or ks free free_slot)) t
 
-      pub has_room : d.count < 64
+      pub has_room : v.count < 64
       has_room = room table books.inside unused
 
-      pub step-placed : a.id ≤ largest_id → (x : Task) → x ≡ booked d.clock a t c → {next words : List ℕ} → Inserted d.count free x rows masks next words → (used : ℕ)
-          → ((j : ℕ) → j < 64 → bit used j ≡ (bit d.used j || eqb j free))
-          → Follows d ks (submit_outcome (state_of ks d) n a) (placed_at c t e (with_live d d.clock (d.count + 1) used) (Booked free x)) next words
+      pub step-placed : a.id ≤ largest_id → (x : Task) → x ≡ booked d.clock a t c → {next words : List ℕ} → Inserted v.count free x rows masks next words → (used : ℕ)
+          → ((j : ℕ) → j < 64 → bit used j ≡ (bit v.used j || eqb j free))
+          → Follows d ks (submit_outcome (state_of ks d) n a) (placed_at c t e (with_live d d.clock (v.count + 1) used) (Booked free x)) next words
       unfolding told changed
       step-placed i x w {next} {words} p used f =
-          subst (λ o. Follows d ks o (placed_at c t e (with_live d d.clock (d.count + 1) used) (Booked free x)) next words)
+          subst (λ o. Follows d ks o (placed_at c t e (with_live d d.clock (v.count + 1) used) (Booked free x)) next words)
           (sym (ap (λ o. record { answer = told o.answer; state = with_board (state_of ks d) o.board }) same))
           (record {
             number = refl;
@@ -346,13 +359,13 @@ module _ (d : Brief) (ks : List Task) {rows masks : List ℕ} (k : Keeps d ks ro
               size = p.numbers.size ∙ k.size;
               wide = p.columns.size ∙ k.wide;
               good = after;
-              kept = λ v. record {
+              kept = λ y. same_found (λ r. Kept d.device d.clock (set ks free x) r.count next) (record {
                 good = after;
                 stands = inserted-stands table books.inside unused p (task-live x w);
-                falling = inserted-falling table books.inside unused p (k.kept u).falling;
-              };
-              masked = λ v. inserted-masked table books.inside unused p (k.masked u);
-              used = λ v. in-use-more k.slots (k.used u) used books.inside x (task-live x w) f;
+                falling = inserted-falling table books.inside unused p (k.kept v u).falling;
+              });
+              masked = λ y. same_found (λ r. Masked r.count next words) (inserted-masked table books.inside unused p (k.masked v u));
+              used = λ y. same_found (λ r. InUse 64 (set ks free x) r.used) (in-use-more k.slots (k.used v u) used books.inside x (task-live x w) f);
             };
             inside = books.inside;
             records = λ tasks v q. ap (λ o. set o free x) (booked-as tasks q) ∙ sym (aged-set d.clock tasks free x ∙ ap (set (all_aged_to d.clock tasks) free) (task-now x w));
@@ -367,14 +380,18 @@ module _ (d : Brief) (ks : List Task) {rows masks : List ℕ} (k : Keeps d ks ro
               (sound-in d.device d.clock (set ks free x) (subst (λ o. SoundBoard o.board) same (submitted-sound b n a i stands)))
 
   -- A BOARD WITHOUT A TASK
-  abbrev pub emptied : Device → Bool → Brief
-  emptied D well = record { clock = 0; device = D; count = 0; used = 0; sound = well }
+  abbrev pub emptied : Device → Option Findings → Brief
+  emptied D found = record { clock = 0; device = D; found = found }
 
-  step-empty : (n : ℕ) (D : Device) (well : Bool) (o : Outcome) → o ≡ record { answer = bare n; state = with_board (state_of ks d) (fresh_board D) }
-      → sound D 0 (replicate 64 free_slot) ≡ well → replicate 64 free_slot ≡ as_booked (emptied D well) (replicate 64 free_slot)
+  -- no task is found in it
+  abbrev pub nothing : Findings
+  nothing = record { count = 0; used = 0 }
+
+  step-empty : (n : ℕ) (D : Device) (well : Option Findings) (o : Outcome) → o ≡ record { answer = bare n; state = with_board (state_of ks d) (fresh_board D) }
+      → ((y : Findings) → well ≡ Some y → y ≡ nothing) → sound D 0 (replicate 64 free_slot) ≡ is_some well → replicate 64 free_slot ≡ as_booked (emptied D well) (replicate 64 free_slot)
       → Follows d ks o (numbered n (emptied D well) Cleared) rows masks
   unfolding fresh_board changed
-  step-empty n D well o e g m =
+  step-empty n D well o e zeros g m =
       subst (λ o. Follows d ks o (numbered n (emptied D well) Cleared) rows masks) (sym e)
       (record {
         number = refl;
@@ -388,19 +405,19 @@ module _ (d : Brief) (ks : List Task) {rows masks : List ℕ} (k : Keeps d ks ro
           size = k.size;
           wide = k.wide;
           good = g;
-          kept = λ v. record { good = g ∙ v; stands = no-tasks rows; falling = λ i j l h. absurd (omega arith) };
-          masked = λ v. record { share = λ q i j a h. absurd (omega arith) };
-          used = λ v. use-in (replicate 64 free_slot) 0 (λ j h. bit-of-zero j ∙ sym (ap live (get_or-replicate 64 j free_slot free_slot h)));
+          kept = λ y z. subst (λ r. Kept D 0 (replicate 64 free_slot) r.count rows) (sym (zeros y z)) (record { good = g ∙ ap is_some z; stands = no-tasks rows; falling = λ i j l h. absurd (omega arith) });
+          masked = λ y z. subst (λ r. Masked r.count rows masks) (sym (zeros y z)) (record { share = λ q i j a h. absurd (omega arith) });
+          used = λ y z. subst (λ r. InUse 64 (replicate 64 free_slot) r.used) (sym (zeros y z)) (use-in (replicate 64 free_slot) 0 (λ j h. bit-of-zero j ∙ sym (ap live (get_or-replicate 64 j free_slot free_slot h))));
         };
         inside = omega arith;
         records = λ tasks v w. m;
       })
 
   -- A NEW BOARD, and the board of zeros
-  pub step-new : (W H g : ℕ) → device_fits (device W H g) ≡ true → Follows d ks (board_outcome (state_of ks d) W H g) (numbered 0 (emptied (device W H g) true) Cleared) rows masks
+  pub step-new : (W H g : ℕ) → device_fits (device W H g) ≡ true → Follows d ks (board_outcome (state_of ks d) W H g) (numbered 0 (emptied (device W H g) (Some nothing)) Cleared) rows masks
   unfolding fresh_board
   step-new W H g fits =
-      step-empty 0 D true (board_outcome (state_of ks d) W H g) (ap (λ x. record { answer = bare x.number; state = with_board (state_of ks d) x.board }) (created-done W H g fits))
+      step-empty 0 D (Some nothing) (board_outcome (state_of ks d) W H g) (ap (λ x. record { answer = bare x.number; state = with_board (state_of ks d) x.board }) (created-done W H g fits)) (λ y z. cc)
       (is_true (sound D 0 (replicate 64 free_slot)) (sound-in D 0 (replicate 64 free_slot) fresh)) (sym (aged-now D 0 (replicate 64 free_slot) fresh))
     where
       D : Device
@@ -410,8 +427,8 @@ module _ (d : Brief) (ks : List Task) {rows masks : List ℕ} (k : Keeps d ks ro
       fresh = subst (λ x. SoundBoard x.board) (created-done W H g fits) (created-sound W H g (rw fits tt))
 
   pub step-zero : (W H g : ℕ) → device_fits (device W H g) ≡ false
-      → Follows d ks (board_outcome (state_of ks d) W H g) (numbered 2 (emptied (device 0 0 0) false) Cleared) rows masks
+      → Follows d ks (board_outcome (state_of ks d) W H g) (numbered 2 (emptied (device 0 0 0) None) Cleared) rows masks
   unfolding fresh_board
   step-zero W H g fits =
-      step-empty 2 (device 0 0 0) false (board_outcome (state_of ks d) W H g)
-      (ap (λ x. record { answer = bare x.number; state = with_board (state_of ks d) x.board }) (created-not W H g fits)) zero-unsound refl
+      step-empty 2 (device 0 0 0) None (board_outcome (state_of ks d) W H g)
+      (ap (λ x. record { answer = bare x.number; state = with_board (state_of ks d) x.board }) (created-not W H g fits)) (λ y z. cc) zero-unsound refl

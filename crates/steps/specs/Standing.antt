@@ -1,6 +1,8 @@
 -- The board inside a run: device and clock, live table, and the records as booked: code-level definitions; no promise of a public call cites them. Assumes nothing.
-use Rattle.std.specs.Prelude.{ℕ, ◌<◌, ◌≡◌, true, cond, List, length, set, replicate}
+use Rattle.std.specs.Prelude.{ℕ, ◌<◌, ◌≡◌, cond, Some, List, length, set, replicate}
+use Rattle.std.specs.Option.{is_some}
 use Rattle.tasks.specs.declared.Task.{Task}
+use Rattle.survey.specs.declared.Findings.{Findings}
 use Rattle.tasks.specs.Tasks.{free_slot}
 use Rattle.slots.specs.Slots.{sound, all_aged_to}
 use Rattle.live.specs.Live.{Masked}
@@ -22,14 +24,14 @@ pub record Keeps (d : Brief) (ks : List Task) (rows masks : List ℕ) : Type 0 w
   pub slots : length ks ≡ 64
   pub size : length rows ≡ 384
   pub wide : length masks ≡ 256
-  pub good : sound d.device d.clock ks ≡ d.sound
-  pub kept : d.sound ≡ true → Kept d.device d.clock ks d.count rows
-  pub masked : d.sound ≡ true → Masked d.count rows masks
-  pub used : d.sound ≡ true → InUse 64 ks d.used
+  pub good : sound d.device d.clock ks ≡ is_some d.found
+  pub kept : (v : Findings) → d.found ≡ Some v → Kept d.device d.clock ks v.count rows
+  pub masked : (v : Findings) → d.found ≡ Some v → Masked v.count rows masks
+  pub used : (v : Findings) → d.found ≡ Some v → InUse 64 ks v.used
 
 -- the records as they were booked: brought up to the clock they are the slots of a sound board
 abbrev pub as_booked : Brief → List Task → List Task
-as_booked d tasks = cond d.sound (all_aged_to d.clock tasks) tasks
+as_booked d tasks = cond (is_some d.found) (all_aged_to d.clock tasks) tasks
 
 -- an event's change to them
 unfoldable pub changed : Change → List Task → List Task

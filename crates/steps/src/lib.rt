@@ -12,6 +12,8 @@ ghost use Rattle.steps.specs.Standing.{state_of, Keeps, Has, Follows};
 use board::{Answer, Board};
 use events::Event;
 use live::{Live, Masks};
+use refusals::Refusal;
+use survey::Findings;
 use tasks::{Device, Submission, Task};
 
 // The state of a run: what one event hands on to the next.
@@ -24,19 +26,17 @@ pub struct State {
 pub fn first_state() -> State
     ensures { result ≡ first_state }
 {
-    let made = Board::new(0, 0);
-    let zeros = made.board;
-    State { board: zeros }
+    State {
+        board: Board::new(0, 0).board,
+    }
 }
 
-// The board inside a run in brief, without its slots: how many tasks are live, and which slots are theirs.
+// The board inside a run in brief, without its slots: what stands in them where it is sound.
 #[derive(Clone, Copy)]
 pub struct Brief {
     pub clock: u32,
     pub device: Device,
-    pub count: usize,
-    pub used: u64,
-    pub sound: bool,
+    pub found: Option<Findings>,
 }
 
 // What an event changed in the slots.
@@ -64,27 +64,25 @@ fn bare(number: u8, d: Brief, change: Change) -> Done
     ensures { result ≡ record { number = number; column = 0; start = 0; finish = 0; brief = d; change = change } }
 {
     Done {
-        number: number,
+        number,
         column: 0,
         start: 0,
         finish: 0,
         brief: d,
-        change: change,
+        change,
     }
 }
 
 // A board without a task.
-fn empty(number: u8, on: Device, sound: bool) -> Done
-    ensures { result ≡ record { number = number; column = 0; start = 0; finish = 0; brief = record { clock = 0; device = on; count = 0; used = 0; sound = sound }; change = Cleared } }
+fn empty(number: u8, on: Device, found: Option<Findings>) -> Done
+    ensures { result ≡ record { number = number; column = 0; start = 0; finish = 0; brief = record { clock = 0; device = on; found = found }; change = Cleared } }
 {
     bare(
         number,
         Brief {
             clock: 0,
             device: on,
-            count: 0,
-            used: 0,
-            sound: sound,
+            found,
         },
         Change::Cleared,
     )
@@ -103,21 +101,21 @@ fn new_board<'a>(
     ensures { (ks : List Task) → Keeps d ks live.now masks.now → Follows d ks (board_outcome (state_of ks d) columns rows grid) result live.now masks.now }
 {
     let on = Device {
-        columns: columns,
-        rows: rows,
-        grid: grid,
+        columns,
+        rows,
+        grid,
     };
     if tasks::device_fits(on) {
-        return empty(0, on, true);
+        return empty(0, on, Some(Findings { count: 0, used: 0 }));
     }
     empty(
-        2,
+        u8::from(Refusal::BadDevice),
         Device {
             columns: 0,
             rows: 0,
             grid: 0,
         },
-        false,
+        None,
     )
 }
 
@@ -126,53 +124,51 @@ fn clock<'a>(live: &'a Live, masks: &'a Masks, d: Brief, instant: u32) -> Done
     requires { Has d live.now masks.now }
     ensures { (ks : List Task) → Keeps d ks live.now masks.now → Follows d ks (outcome (state_of ks d) (Clock instant)) result live.now masks.now }
 {
-    if !d.sound {
-        return bare(1, d, Change::Nothing);
+    let Some(v) = d.found else {
+        return bare(u8::from(Refusal::Unsound), d, Change::Nothing);
+    };
+    if let Err(refusal) = refusals::refuse_instant(d.clock, instant) {
+        return bare(u8::from(refusal), d, Change::Nothing);
     }
-    let number = refusals::refuse_instant(d.clock, instant);
-    if 0 < number {
-        return bare(number, d, Change::Nothing);
-    }
-    let on = d.device;
-    let count = live::after(live, d.count, instant);
+    let count = live::after(live, v.count, instant);
+    let used = keeping::without_slots(live, v.used, count, v.count);
     bare(
         0,
         Brief {
             clock: instant,
-            device: on,
-            count: count,
-            used: keeping::without_slots(live, d.used, count, d.count),
-            sound: true,
+            found: Some(Findings { count, used }),
+            ..d
         },
         Change::Nothing,
     )
 }
 
-// A waiting task withdrawn. Where no live task has the id, whether one has begun is not asked: 13 comes first.
+// A waiting task withdrawn.
 fn withdraw<'a>(live: &'a mut Live, masks: &'a mut Masks, d: Brief, id: u32) -> Done
     requires { Has d live.old masks.old }
     ensures { (ks : List Task) → Keeps d ks live.old masks.old → Follows d ks (outcome (state_of ks d) (Withdraw id)) result live.new masks.new }
 {
-    if !d.sound {
-        return bare(1, d, Change::Nothing);
-    }
-    let i = keeping::find(live, d.count, id);
+    let Some(v) = d.found else {
+        return bare(u8::from(Refusal::Unsound), d, Change::Nothing);
+    };
+    let Some(i) = keeping::find(live, v.count, id) else {
+        return bare(u8::from(Refusal::IdNotLive), d, Change::Nothing);
+    };
     let begun = live[live::FROM + i] <= d.clock;
-    let number = refusals::refuse_withdrawal(i < d.count, begun);
-    if 0 < number {
-        return bare(number, d, Change::Nothing);
+    if let Err(refusal) = refusals::refuse_withdrawal(true, begun) {
+        return bare(u8::from(refusal), d, Change::Nothing);
     }
-    let on = d.device;
     let slot = live[live::SLOT + i];
-    keeping::remove(live, masks, d.count, i);
+    keeping::remove(live, masks, v.count, i);
+    let left = Findings {
+        count: v.count - 1,
+        used: live::without_slot(v.used, slot),
+    };
     bare(
         0,
         Brief {
-            clock: d.clock,
-            device: on,
-            count: d.count - 1,
-            used: live::without_slot(d.used, slot),
-            sound: true,
+            found: Some(left),
+            ..d
         },
         Change::Freed {
             slot: slot as usize,
@@ -191,39 +187,36 @@ fn submit<'a>(
     requires { Has d live.old masks.old }
     ensures { (ks : List Task) → Keeps d ks live.old masks.old → Follows d ks (submit_outcome (state_of ks d) planner a) result live.new masks.new }
 {
-    if !d.sound {
-        return bare(1, d, Change::Nothing);
-    }
-    let on = d.device;
-    let free = live::lowest_free(d.used);
+    let Some(v) = d.found else {
+        return bare(u8::from(Refusal::Unsound), d, Change::Nothing);
+    };
+    let free = live::lowest_free(v.used);
     let slot = free as usize;
-    let answer = board::decide(live, masks, d.count, slot, on, d.clock, planner, a);
+    let answer = board::decide(live, masks, v.count, slot, d.device, d.clock, planner, a);
     match answer {
         Answer::Rejected => bare(10, d, Change::Nothing),
         Answer::Refused(number) => bare(number, d, Change::Nothing),
         Answer::Placed {
             column,
-            start: from,
-            finish: to,
+            start,
+            finish,
         } => {
-            let k = tasks::booked(d.clock, a, from, column);
-            keeping::insert(live, masks, d.count, free, k);
+            let task = tasks::booked(d.clock, a, start, column);
+            keeping::insert(live, masks, v.count, free, task);
+            let more = Findings {
+                count: v.count + 1,
+                used: live::with_slot(v.used, free),
+            };
             Done {
                 number: 0,
-                column: column,
-                start: from,
-                finish: to,
+                column,
+                start,
+                finish,
                 brief: Brief {
-                    clock: d.clock,
-                    device: on,
-                    count: d.count + 1,
-                    used: live::with_slot(d.used, free),
-                    sound: true,
+                    found: Some(more),
+                    ..d
                 },
-                change: Change::Booked {
-                    slot: slot,
-                    task: k,
-                },
+                change: Change::Booked { slot, task },
             }
         }
     }

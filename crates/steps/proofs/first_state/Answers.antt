@@ -4,4 +4,4 @@ use Rattle.steps.proofs.Steps.{created-not}
 use Rattle.steps.proofs.first_state.Goals as goal
 
 pub returns : goal.returns
-returns c = ap (λ x. record { board = x.board }) (c.new-made.ensures ∙ created-not 0 0 1 refl)
+returns c = ap (λ x. record { board = x.board }) (c.new.ensures ∙ created-not 0 0 1 refl)

@@ -11,4 +11,4 @@ returns-then-device_fits c = λ ks k.
 pub returns : goal.returns
 returns c = λ ks k.
     let a = c.args in
-    rw c.empty-2.ensures (step-zero a.d ks k a.columns a.rows a.grid (sym c.device_fits.ensures ∙ c.if-device_fits.false))
+    rw (c.empty-2.ensures, c.from.ensures) (step-zero a.d ks k a.columns a.rows a.grid (sym c.device_fits.ensures ∙ c.if-device_fits.false))

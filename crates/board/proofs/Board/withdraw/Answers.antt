@@ -3,7 +3,7 @@ use mathlib.Core.Path.{refl, sym, ap, ◌∙◌}
 use mathlib.Core.Bool.{not}
 use borrow.Author.Tests.{not-true, not-false}
 use Rattle.refusals.proofs.First.{is_told}
-use Rattle.board.proofs.Tested.{place-is, place-known, place-begun, withdrawn-unsound, withdrawn-nowhere, withdrawn-refused, withdrawn-freed}
+use Rattle.board.proofs.Tested.{place-is, place-known, place-begun, withdrawn-unsound, withdrawn-nowhere, place-nowhere, withdrawn-refused, withdrawn-freed}
 use Rattle.board.proofs.Board.withdraw.Goals as goal
 
 pub returns-then-not-is_sound : goal.returns-then-not-is_sound
@@ -12,7 +12,7 @@ returns-then-not-is_sound c = rw c.from.ensures (sym (withdrawn-unsound _ _ (sym
 pub returns-in_default : goal.returns-in_default
 returns-in_default c =
     let good = sym c.is_sound.ensures ∙ not-false _ (ap not c.if-not-is_sound.false) in
-    rw c.from-in_default.ensures (sym (withdrawn-nowhere _ _ good c.in_default.ensures))
+    rw c.from-in_default.ensures (sym (withdrawn-nowhere _ _ good (place-nowhere c.args.self c.args.id c.in_default.ensures)))
 
 pub returns-in-Err : goal.returns-in-Err
 returns-in-Err c =
