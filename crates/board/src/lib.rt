@@ -13,7 +13,7 @@ ghost use Rattle.board.specs.Calls.{fresh_board, created, submitted, clocked, wi
 ghost use Rattle.board.specs.Standing.{submitted_booked, board_of, Standing};
 
 use live::{Live, Masks};
-use planners::{Found, Window};
+use planners::{Place, Window};
 use tasks::{Device, Submission, Task};
 
 // "A board is a device of W columns and H rows, a clock called now, and at most 64 live tasks." The device has a grid too.
@@ -135,14 +135,11 @@ pub fn decide<'a>(
         },
     );
     match found {
-        Found::Nothing => Answer::Rejected,
-        Found::At {
-            column,
-            start: from,
-        } => Answer::Placed {
+        None => Answer::Rejected,
+        Some(Place { column, start }) => Answer::Placed {
             column: (column % 65536) as u16,
-            start: from,
-            finish: from + a.e,
+            start,
+            finish: start + a.e,
         },
     }
 }
