@@ -17,8 +17,8 @@ use Rattle.tasks.specs.declared.Task.{Task}
 use Rattle.tasks.specs.declared.Submission.{Submission}
 use Rattle.tasks.specs.Tasks.{live, stamped, booked, meets}
 use Rattle.tasks.specs.Numbers.{last_instant, last_planner}
-use Rattle.planners.specs.declared.Found.{Found}
-use Rattle.planners.specs.declared.Found.TheVariants.{Nothing, At}
+use Rattle.std.specs.Prelude.{Some, None, Option as Answer}
+use Rattle.planners.specs.declared.Place.{Place as FoundPlace}
 use Rattle.planners.specs.Openings.{Place, full, ways}
 use Rattle.planners.specs.Planners.{reference, horizon, stuffing, planned, clear_of_waiting, candidates, released_edges, visited}
 use Rattle.planners.specs.declared.Window.{Window}
@@ -47,13 +47,16 @@ unfolding submitted refused_submit or_refused
 submit-unsound b n a e = rw (unsound-refused (sound_board b) (submit_tests b.device b.now n a (known a.id b.tasks) (leb 64 (length (live_of b)))) e)
 
 -- what was found is the place
-pub found_none : (q : Option Place) → Nothing ≡ found_of q → q ≡ none
+pub found_none : (q : Option Place) → None ≡ found_of q → q ≡ none
 found_none none e = refl
-found_none (some p) e = absurd (let z : ◌≡◌ {A = ℕ} 0 1 = cc in omega arith)
+found_none (some p) e = cc
 
-pub found_some : (q : Option Place) {c t : ℕ} → At c t ≡ found_of q → q ≡ some (pair t c)
-found_some none e = absurd (let z : ◌≡◌ {A = ℕ} 0 1 = cc in omega arith)
-found_some (some p) {c} {t} e = let x : c ≡ p.place = cc in let y : t ≡ p.start = cc in λ i. some (pair (sym y i) (sym x i))
+pub found_some : (q : Option Place) {c t : ℕ} → Some (record { column = c; start = t }) ≡ found_of q → q ≡ some (pair t c)
+found_some none e = cc
+found_some (some p) {c} {t} e =
+    let r : ◌≡◌ {A = FoundPlace} (record { column = c; start = t }) (record { column = p.place; start = p.start }) = cc in
+    let x : c ≡ p.place = ap (λ (q : FoundPlace). q.column) r in
+    let y : t ≡ p.start = ap (λ (q : FoundPlace). q.start) r in λ i. some (pair (sym y i) (sym x i))
 
 -- a task that is not refused is answered by its planner
 pub accepted-answered : (b : Board) (n : ℕ) (a : Submission) → refused_submit b n a ≡ 0 → submitted b n a ≡ taken b a (planned b.device.grid b.device.columns b.now (live_of b) a n)
@@ -168,7 +171,7 @@ module _ (b : Board) (n : ℕ) (a : Submission) (count free : ℕ) (rows : List 
     may-ask m = (k.planner, kept-lent-to o m, record { wide = k.w.low; columns = k.w.high; long = k.e.low; in-time = k.reachable; until = k.d })
 
     -- no place was found: the rejection
-    pub rejected : {f : Found} → f ≡ found_of (planned 1 b.device.columns b.now (tasks_of count rows) (wanted window) n) → f ≡ Nothing → Rejected ≡ (submitted b n a).answer
+    pub rejected : {f : Answer FoundPlace} → f ≡ found_of (planned 1 b.device.columns b.now (tasks_of count rows) (wanted window) n) → f ≡ None → Rejected ≡ (submitted b n a).answer
     unfolding taken
     rejected x y =
         let m = found_none (planned b.device.grid b.device.columns b.now (live_of b) a n) (sym y ∙ x ∙ ap found_of (planned-lent k)) in
@@ -179,7 +182,7 @@ module _ (b : Board) (n : ℕ) (a : Submission) (count free : ℕ) (rows : List 
       pub fits : t + a.e ≤ last_instant
       pub same : Placed (c % 65536) t (t + a.e) ≡ (submitted b n a).answer
 
-    pub settled : {f : Found} {c t : ℕ} → f ≡ found_of (planned 1 b.device.columns b.now (tasks_of count rows) (wanted window) n) → f ≡ At c t → Settled c t
+    pub settled : {f : Answer FoundPlace} {c t : ℕ} → f ≡ found_of (planned 1 b.device.columns b.now (tasks_of count rows) (wanted window) n) → f ≡ Some (record { column = c; start = t }) → Settled c t
     unfolding taken
     settled {f} {c} {t} x y =
         let m = found_some (planned b.device.grid b.device.columns b.now (live_of b) a n) (sym y ∙ x ∙ ap found_of (planned-lent k)) in

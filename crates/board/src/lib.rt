@@ -13,7 +13,7 @@ ghost use Rattle.board.specs.Calls.{fresh_board, created, submitted, clocked, wi
 ghost use Rattle.board.specs.Standing.{submitted_booked, board_of, Standing};
 
 use live::{Live, Masks};
-use planners::{Found, Window};
+use planners::{Place, Window};
 use refusals::Refusal;
 use tasks::{Device, Submission, Task};
 
@@ -132,14 +132,11 @@ pub fn decide<'a>(
     }
     let found = place::find(planner, live, masks, count, window_of(on, clock, a));
     match found {
-        Found::Nothing => Answer::Rejected,
-        Found::At {
-            column,
-            start: from,
-        } => Answer::Placed {
+        None => Answer::Rejected,
+        Some(Place { column, start }) => Answer::Placed {
             column: (column % 65536) as u16,
-            start: from,
-            finish: from + a.e,
+            start,
+            finish: start + a.e,
         },
     }
 }

@@ -22,6 +22,7 @@ fn is_edge(held: [u64; 4], c: u32) -> bool
 pub fn narrowest(held: [u64; 4], fit: [u64; 4]) -> Option<u32>
     ensures { (W w : ℕ) → Fitting held fit W w → Picked (column fit) w (runs (λ c. not (column held c)) (columns W)) result }
 {
+    // Stays: NONE, past every key, in the minimum: an Option would ask each time whether there is one.
     let mut best = lists::NONE;
     let mut at: u32 = 1;
     while at < 257 {

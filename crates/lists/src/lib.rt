@@ -1,17 +1,10 @@
 // Lists: definitions (specs/) and their laws (proofs/). The code is what crates of every kind say of a number.
 #![tactic(auto)]
 
-ghost use Rattle.std.specs.Prelude.{◌≡◌, cond, ◌≤◌, min};
+ghost use Rattle.std.specs.Prelude.{◌≡◌, cond, ◌≤◌};
 
 // No number: past every key and every time that counts.
 pub const NONE: u32 = 0xffff_ffff;
-
-// The lesser of two.
-pub fn lesser(x: u32, y: u32) -> u32
-    ensures { result ≡ min x y }
-{
-    if x < y { x } else { y }
-}
 
 // 1 for what holds, 0 for what does not: to count without a branch.
 pub fn one_if(holds: bool) -> u32

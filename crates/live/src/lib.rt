@@ -39,6 +39,7 @@ pub fn after(live: &Live, n: usize, t: u32) -> usize
 }
 
 // The next finish after t, where the first n tasks are those that finish after t; a number past every finish where there is none.
+// Stays: that number and no Option, since one comparison then tells a walk that none is left or that it is too late.
 pub fn next_finish(live: &Live, n: usize) -> u32
     requires { n ≤ 64 }
     ensures { (count t : ℕ) → Falling count live.now → After live.now count t n → t < never → NextFinish live.now count t result }

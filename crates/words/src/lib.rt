@@ -32,6 +32,7 @@ pub fn share(low: u32, first: u32, past: u32) -> u64
 }
 
 // The columns from `first` up to, not including, `past` set too, by two shifts a word.
+// Stays: four words in a row, here and in `inverted`: a loop or a `map` over them says it no plainer.
 pub fn marked(words: [u64; 4], first: u32, past: u32) -> [u64; 4]
     ensures { (c : ℕ) → 1 ≤ c → c ≤ 256 → column result c ≡ (column words c || (leb first c && ltb c past)) }
 {
@@ -60,6 +61,7 @@ pub fn next_in(word: u64, from: u32) -> u32
 }
 
 // The least column from `from` on that is set, or 257.
+// Stays: 257 and no Option, since callers go on from it as from any column: a run of clear columns ends there.
 pub fn next_set(words: [u64; 4], from: u32) -> u32
     requires { (1 ≤ from) × (from ≤ 257) }
     ensures { Least (column words) from 257 result }

@@ -23,17 +23,17 @@ pub overflow_add-result : goal.overflow_add-result
 overflow_add-result c =
     let a = c.args in
     let o = settled (board_of c.requires.slots a.clock a.on) a.planner a.a _ _ _ c.requires.kept c.requires.lowest
-    c.among-known.ensures c.in_default.ensures refl (rw c.window_of.ensures at c.find-found.ensures) c.in-At.is in
+    c.among-known.ensures c.in_default.ensures refl (rw c.window_of.ensures at c.find-found.ensures) c.in-Some.is in
     omega (arith, o.fits)
 
-pub returns-in-Nothing : goal.returns-in-Nothing
-returns-in-Nothing c = λ ks o l.
+pub returns-in-None : goal.returns-in-None
+returns-in-None c = λ ks o l.
     let a = c.args in
     rejected (board_of ks a.clock a.on) a.planner a.a _ _ _ o l c.among-known.ensures c.in_default.ensures
-    refl (rw c.window_of.ensures at c.find-found.ensures) c.in-Nothing.is
+    refl (rw c.window_of.ensures at c.find-found.ensures) c.in-None.is
 
-pub returns-in-At : goal.returns-in-At
-returns-in-At c = λ ks o l.
+pub returns-in-Some : goal.returns-in-Some
+returns-in-Some c = λ ks o l.
     let a = c.args in
     (settled (board_of ks a.clock a.on) a.planner a.a _ _ _ o l c.among-known.ensures c.in_default.ensures
-    refl (rw c.window_of.ensures at c.find-found.ensures) c.in-At.is).same
+    refl (rw c.window_of.ensures at c.find-found.ensures) c.in-Some.is).same
