@@ -1,9 +1,4 @@
 -- `summing::close` meets its contract. Assumes nothing.
-use Prim.Native.Nat.{◌-◌}
-use mathlib.Core.Path.{◌≡◌, ap, ◌∙◌}
-use native.Mathlib.Omega.{arith}
-use lib.ListN.{length, take}
-use borrow.Author.Rules.{rules}
 use Rattle.batches.specs.Batches.{name_of}
 use Rattle.summing.proofs.Feeding.{words_of, said_of, closes}
 use Rattle.summing.proofs.close.Goals as goal

@@ -1,8 +1,8 @@
 -- `summing::count_lines` meets its contract. Assumes nothing.
-use Prim.Native.Nat.{◌-◌, min}
+use Prim.Native.Nat.{min}
 use mathlib.Core.Path.{◌≡◌, sym, ap, ◌∙◌}
 use native.Mathlib.Omega.{arith}
-use lib.ListN.{length, take, length-take}
+use lib.ListN.{length, length-take}
 use Rattle.reader.specs.Reader.{held_of}
 use Rattle.figures.specs.Figures.{sheet_of}
 use Rattle.figures.specs.Rows.{trials_in}
