@@ -1,72 +1,70 @@
 -- A line as the machine reads it: behind its mark, and its words one by one. Assumes nothing.
-use Prim.Native.Nat.{ℕ, ◌+◌, ◌≤◌, ◌<◌}
+use Prim.Native.Nat.{ℕ, ◌+◌, ◌-◌, ◌≤◌, ◌<◌, min}
 use mathlib.Core.Path.{◌≡◌, refl, sym, ap, ◌∙◌}
 use mathlib.Core.Bool.{Bool, true, false, cond, ◌&&◌}
 use mathlib.Core.List.{List, [], ◌∷◌}
 use native.Mathlib.Omega.{arith}
+use native.Mathlib.Decide.{dec_le}
+use native.Mathlib.Numerals.{add-one}
 use borrow.Author.Tests.{eq-eqb, ne_eqb, le-leb, lt-leb}
 use lib.Dec.{eqb}
-use lib.ListN.{length, take, drop, get_or, length-take}
-use lib.Seq.{drop-drop, get_or-drop}
-use Rattle.tokens.specs.declared.Word.{Word}
-use Rattle.tokens.specs.Tokens.{ended, words, same}
-use Rattle.tokens.specs.Walks.{part, Next}
-use Rattle.tokens.proofs.Names.{same-lengths}
-use Rattle.tokens.proofs.Walking.{no_word, same-places}
+use lib.ListN.{length, take, drop, get_or, length-drop}
+use lib.Pointwise.{pointwise}
+use lib.Seq.{take_all}
+use Rattle.tokens.specs.Tokens.{words, first_word, other_words, same}
+use Rattle.tokens.proofs.Names.{same-bytes}
 use Rattle.recorder.specs.Recorder.{unmarked}
-use Rattle.recorder.specs.Machine.{Found, added}
+use Rattle.recorder.specs.Machine.{added}
+
+-- the bytes from a place to another, and from a place on
+abbrev pub part : ℕ → ℕ → List ℕ → List ℕ
+part from to text = take (to - from) (drop from text)
+
+pub onward : (l : List ℕ) (f : ℕ) → part f (length l) l ≡ drop f l
+onward l f = take_all (length l - f) (drop f l) (omega (arith, length-drop f l))
 
 module _ (n : ℕ) (line : List ℕ) where
-  -- another line, a line without the mark, a line that is shorter than the mark
+  -- another line, a line without the mark
   pub unmarked-other : (n ≡ 1 → ⊥) → line ≡ unmarked n line
   unfolding unmarked
   unmarked-other h = rw (ne_eqb n 1 h)
 
-  pub unmarked-none : same (take 3 line) (239 ∷ 187 ∷ 191 ∷ []) ≡ false → line ≡ unmarked n line
+  pub unmarked-none : pointwise eqb (take 3 line) (239 ∷ 187 ∷ 191 ∷ []) ≡ false → line ≡ unmarked n line
   unfolding unmarked
-  unmarked-none e = rw e (go (eqb n 1))
+  unmarked-none e = rw (sym (same-bytes (take 3 line) (239 ∷ 187 ∷ 191 ∷ [])) ∙ e) (go (eqb n 1))
     where
       go : (t : Bool) → line ≡ cond (t && false) (drop 3 line) line
       go true = refl
       go false = refl
 
-  pub unmarked-short : length line < 3 → line ≡ unmarked n line
-  unmarked-short h = unmarked-none (same-lengths (take 3 line) (239 ∷ 187 ∷ 191 ∷ []) (λ e. omega (arith, length-take 3 line)))
-
   -- THE MARK
-  pub unmarked-mark : n ≡ 1 → same (take 3 line) (239 ∷ 187 ∷ 191 ∷ []) ≡ true → drop 3 line ≡ unmarked n line
+  pub unmarked-mark : n ≡ 1 → pointwise eqb (take 3 line) (239 ∷ 187 ∷ 191 ∷ []) ≡ true → drop 3 line ≡ unmarked n line
   unfolding unmarked
-  unmarked-mark h e = rw (eq-eqb n 1 h, e)
+  unmarked-mark h e = rw (eq-eqb n 1 h, sym (same-bytes (take 3 line) (239 ∷ 187 ∷ 191 ∷ [])) ∙ e)
 
-module _ {l : List ℕ} {at : ℕ} {w : Word} (nx : Next l at w) where
-  -- where the words from a place on are those behind the first k, this one is word k, counted from 0
-  pub found_word : (k : ℕ) → words (drop at l) ≡ drop k (words l) → Found l k w
-  unfolding ended
-  found_word k e = record { ordered = nx.ordered; within = nx.within; word = go (part w.from w.to l) refl ∙ there }
-    where
-      there : get_or (words (drop at l)) 0 [] ≡ get_or (words l) k []
-      there = ap (λ ws. get_or ws 0 []) e ∙ get_or-drop k (words l) 0 [] ∙ ap (λ j. get_or (words l) j []) (let z : k + 0 ≡ k = omega arith in z)
+-- the first of some words, and one behind it
+pub first-found : (ws : List (List ℕ)) → first_word ws ≡ get_or ws 0 []
+unfolding first_word
+first-found [] = refl
+first-found (w ∷ ws) = refl
 
-      go : (p : List ℕ) → part w.from w.to l ≡ p → p ≡ get_or (words (drop at l)) 0 []
-      go [] q = sym (ap (λ ws. get_or ws 0 []) (no_word nx (same-places nx q)))
-      go (b ∷ bs) q = sym (ap (λ ws. get_or ws 0 []) (nx.first ∙ ap (λ t. ended t (words (drop w.to l))) q))
-
-  -- ONE WORD MORE
-  pub next-found : (k : ℕ) → words (drop at l) ≡ drop k (words l) → words (drop w.to l) ≡ drop (k + 1) (words l)
-  unfolding ended
-  next-found k e = go (part w.from w.to l) refl ∙ ap (drop 1) e ∙ drop-drop 1 k (words l)
-    where
-      go : (p : List ℕ) → part w.from w.to l ≡ p → words (drop w.to l) ≡ drop 1 (words (drop at l))
-      go [] q =
-          let none : words (drop at l) ≡ [] = no_word nx (same-places nx q) in
-          sym (nx.first ∙ ap (λ t. ended t (words (drop w.to l))) q) ∙ none ∙ sym (ap (drop 1) none)
-      go (b ∷ bs) q = sym (ap (drop 1) (nx.first ∙ ap (λ t. ended t (words (drop w.to l))) q))
+pub next-found : (ws : List (List ℕ)) (k : ℕ) → get_or (other_words ws) k [] ≡ get_or ws (k + 1) []
+unfolding other_words
+next-found [] k = refl
+next-found (w ∷ ws) k = rw (add-one k)
 
 -- a counter
 pub added-small : (n k : ℕ) → n + k ≤ 18446744073709551615 → n + k ≡ added n k
 unfolding added
 added-small n k h = rw (le-leb (n + k) 18446744073709551615 h)
 
-pub added-large : (n k : ℕ) → 18446744073709551615 < n + k → 18446744073709551615 ≡ added n k
+added-large : (n k : ℕ) → 18446744073709551615 < n + k → 18446744073709551615 ≡ added n k
 unfolding added
 added-large n k h = rw (lt-leb (n + k) 18446744073709551615 h)
+
+pub added-most : (n k : ℕ) → min (n + k) 18446744073709551615 ≡ added n k
+added-most n k = go (dec_le (n + k) 18446744073709551615)
+  where
+    go : Dec (n + k ≤ 18446744073709551615) → min (n + k) 18446744073709551615 ≡ added n k
+    go (yes h) = let e : min (n + k) 18446744073709551615 ≡ n + k = omega arith in e ∙ added-small n k h
+    go (no h) = let e : min (n + k) 18446744073709551615 ≡ 18446744073709551615 = omega arith in e ∙ added-large n k (omega arith)

@@ -12,11 +12,10 @@ use Rattle.events.specs.Records.{Written, record_of, body_of, written, written_b
 use Rattle.events.proofs.Found.{Known, new-board, submit, clock, withdraw, grid-board}
 use Rattle.events.proofs.Calls.{has-kind}
 use Rattle.events.proofs.Writing.{room-answer, room-buffer}
-use Rattle.tokens.specs.Walks.{part}
-use Rattle.tokens.proofs.Walking.{onward}
-use Rattle.lines.specs.declared.Line.{Line}
-use Rattle.lines.specs.declared.Line.TheVariants.{Nothing, Says, Wrong}
-use Rattle.lines.specs.Lines.{says}
+use Rattle.recorder.proofs.Reading.{part, onward}
+use Rattle.std.proofs.Common.{Some, None, Ok, Err}
+use Rattle.lines.specs.declared.Kind.{Kind}
+use Rattle.lines.specs.Lines.{Line, says}
 use Rattle.recorder.specs.Recorder.{unmarked, made_of, line_made}
 
 -- NO RECORD is longer than 18 bytes
@@ -50,31 +49,29 @@ module _ (v : Event) (l : List ℕ) (used : ℕ) (h : used + 18 ≤ length l) wh
       rw (none, append-nil, e, room-buffer v room enough, tail) (sym whole)
 
 -- what a line makes, by what was read behind its mark
-pub made_by : (n records : ℕ) (text : List ℕ) (from : ℕ) {said : Line} (x : Line) → drop from text ≡ unmarked n text
-    → said ≡ says (part from (length text) text) → said ≡ x → line_made n records text ≡ made_of n records (part from (length text) text) x
+pub made_by : (n records : ℕ) (text : List ℕ) {behind : List ℕ} {said : Line} (x : Line) → behind ≡ unmarked n text → said ≡ says behind → said ≡ x
+    → line_made n records text ≡ made_of n records behind x
 unfolding line_made
-made_by n records text from x m r q =
-    let e : unmarked n text ≡ part from (length text) text = sym (onward text from ∙ m) in
-    ap (λ t. made_of n records t (says t)) e ∙ ap (made_of n records (part from (length text) text)) (sym r ∙ q)
+made_by n records text {behind} x m r q = ap (λ t. made_of n records t (says t)) (sym m) ∙ ap (made_of n records behind) (sym r ∙ q)
 
 -- a line that goes on says nothing, and no line writes more than a record
 made_quiet : (n records : ℕ) (line : List ℕ) (x : Line) → (made_of n records line x).more ≡ true → (made_of n records line x).output.err ≡ []
 unfolding made_of
-made_quiet n records line Nothing e = refl
-made_quiet n records line (Says v) e = refl
-made_quiet n records line (Wrong kind word) e = absurd (let z : ◌≡◌ {A = ℕ} 0 1 = cc in omega arith)
+made_quiet n records line (Ok None) e = refl
+made_quiet n records line (Ok (Some v)) e = refl
+made_quiet n records line (Err w) e = absurd (let z : ◌≡◌ {A = ℕ} 0 1 = cc in omega arith)
 
 made-short : (n records : ℕ) (line : List ℕ) (x : Line) → length (made_of n records line x).output.out ≤ 18
 unfolding made_of
-made-short n records line Nothing = omega arith
-made-short n records line (Says v) = record-short v
-made-short n records line (Wrong kind word) = omega arith
+made-short n records line (Ok None) = omega arith
+made-short n records line (Ok (Some v)) = record-short v
+made-short n records line (Err w) = omega arith
 
 made-few : (n records : ℕ) (line : List ℕ) (x : Line) → (made_of n records line x).records ≤ 1
 unfolding made_of
-made-few n records line Nothing = omega arith
-made-few n records line (Says v) = omega arith
-made-few n records line (Wrong kind word) = omega arith
+made-few n records line (Ok None) = omega arith
+made-few n records line (Ok (Some v)) = omega arith
+made-few n records line (Err w) = omega arith
 
 module _ (n records : ℕ) (line : List ℕ) where
   pub line_quiet : (line_made n records line).more ≡ true → (line_made n records line).output.err ≡ []

@@ -1,20 +1,11 @@
 -- The machine that `record` runs, fed piece by piece: what each call does. Assumes nothing.
 use Rattle.std.specs.Prelude.{ℕ, ◌+◌, ◌-◌, ◌≤◌, ◌≡◌, Bool, true, false, cond, ◌&&◌, List, [], ◌∷◌, leb, ltb, length, take, get_or}
 use Rattle.std.proofs.lemmas.List.Edits.{sets}
-use Rattle.tokens.specs.declared.Word.{Word}
-use Rattle.tokens.specs.Tokens.{words}
-use Rattle.tokens.specs.Walks.{part}
 use Rattle.text.specs.Output.{Output, nothing, before}
 use Rattle.recorder.specs.declared.Recorder.{Recorder}
 use Rattle.recorder.specs.declared.Fed.{Fed}
 use Rattle.recorder.specs.declared.Step.{Step}
 use Rattle.recorder.specs.Recorder.{Made, lines_on, long_text, refused, line_made, record_lines}
-
--- a word of a text, counted from 0, as code finds it: its place
-pub record Found (text : List ℕ) (n : ℕ) (r : Word) : Type 0 where
-  pub ordered : r.from ≤ r.to
-  pub within : r.to ≤ length text
-  pub word : part r.from r.to text ≡ get_or (words text) n []
 
 -- what a line made, as code hands it on
 abbrev pub step_of : Made → Step

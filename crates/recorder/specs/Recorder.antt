@@ -1,12 +1,12 @@
 -- What the program `record` writes for a text. Assumes nothing.
-use Rattle.std.specs.Prelude.{ℕ, suc, ◌+◌, ◌-◌, Bool, true, false, cond, ◌&&◌, List, [], ◌∷◌, ◌++◌, map, leb, ltb, eqb, length, take, drop, get_or}
+use Rattle.std.specs.Prelude.{ℕ, suc, ◌+◌, ◌-◌, Some, None, Ok, Err, Bool, true, false, cond, ◌&&◌, List, [], ◌∷◌, ◌++◌, map, leb, ltb, eqb, length, take, drop, get_or}
 use Rattle.events.specs.Records.{record_of}
 use Rattle.text.specs.Text.{ascii, decimal}
 use Rattle.text.specs.Output.{Output, nothing, before}
 use Rattle.tokens.specs.Tokens.{words, same, empty}
-use Rattle.lines.specs.declared.Line.{Line}
-use Rattle.lines.specs.declared.Line.TheVariants.{Nothing, Says, Wrong}
-use Rattle.lines.specs.Lines.{bare, says}
+use Rattle.lines.specs.declared.Kind.{Kind}
+use Rattle.lines.specs.declared.Kind.TheVariants.{Unnamed, Board, Submit, Clock, Withdraw}
+use Rattle.lines.specs.Lines.{Line, bare, says}
 
 -- "a line feed (10) ends a line, and so does the end of the text": the lines of a text behind the bytes of one that has begun
 unfoldable pub lines_on : List ℕ → List ℕ → List (List ℕ)
@@ -54,20 +54,20 @@ clock_wants word = cond (eqb word 2) (ascii "T, a number from 0 to 4294967295 (c
 unfoldable pub withdraw_wants : ℕ → List ℕ
 withdraw_wants word = cond (eqb word 2) (ascii "ID, a number from 0 to 4294967295 (withdraw ID)") (ascii "the end of the line (withdraw ID)")
 
--- by the kind of the line, 0 where its first word is no name of one
-unfoldable pub expected : ℕ → ℕ → List ℕ
-expected kind word =
-    cond (eqb kind 0) (ascii "board, submit, clock or withdraw")
-    (cond (eqb kind 1) (board_wants word)
-    (cond (eqb kind 3) (clock_wants word)
-    (cond (eqb kind 4) (withdraw_wants word) (submit_wants word ++ ascii " (submit PLANNER ID W H E D)"))))
+-- by the kind of the line
+unfoldable pub expected : Kind → ℕ → List ℕ
+expected Unnamed word = ascii "board, submit, clock or withdraw"
+expected Board word = board_wants word
+expected Submit word = submit_wants word ++ ascii " (submit PLANNER ID W H E D)"
+expected Clock word = clock_wants word
+expected Withdraw word = withdraw_wants word
 
 -- "how many records were written before it": the end of a message
 unfoldable pub count_text : ℕ → List ℕ
 count_text records = ascii "; records written: " ++ (decimal records ++ (10 ∷ []))
 
 -- the message of a wrong line: its number, the number of its wrong word, the word, what stands there in a right line
-unfoldable pub wrong_text : ℕ → ℕ → ℕ → ℕ → List ℕ → List ℕ
+unfoldable pub wrong_text : ℕ → ℕ → Kind → ℕ → List ℕ → List ℕ
 wrong_text n records kind word w =
     ascii "record: line " ++ (decimal n ++ (ascii ", word " ++ (decimal word ++ (ascii ": " ++ (quoted w
     ++ (ascii ": expected " ++ (expected kind word ++ count_text records)))))))
@@ -88,9 +88,9 @@ refused message = record { output = record { out = 0 ∷ []; err = message }; re
 
 -- line n behind so many records, by what it says
 unfoldable pub made_of : ℕ → ℕ → List ℕ → Line → Made
-made_of n records line Nothing = record { output = nothing; records = 0; more = true }
-made_of n records line (Says v) = record { output = record { out = record_of v; err = [] }; records = 1; more = true }
-made_of n records line (Wrong kind word) = refused (wrong_text n records kind word (get_or (words (bare line)) (word - 1) []))
+made_of n records line (Ok None) = record { output = nothing; records = 0; more = true }
+made_of n records line (Ok (Some v)) = record { output = record { out = record_of v; err = [] }; records = 1; more = true }
+made_of n records line (Err w) = refused (wrong_text n records w.kind w.word (get_or (words (bare line)) (w.word - 1) []))
 
 unfoldable pub line_made : ℕ → ℕ → List ℕ → Made
 line_made n records line = made_of n records (unmarked n line) (says (unmarked n line))

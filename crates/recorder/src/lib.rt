@@ -1,19 +1,18 @@
 // Lines of text to event records, piece by piece: the machine that the program `record` runs.
 #![tactic(auto)]
 
-ghost use Rattle.std.specs.Prelude.{◌≡◌, ◌&&◌, leb, ltb, [], map, ◌+◌, ◌-◌, ◌≤◌, ◌<◌, length, take, drop, get_or};
+ghost use Rattle.std.specs.Prelude.{◌≡◌, ◌&&◌, leb, ltb, [], map, ◌+◌, ◌-◌, ◌≤◌, length, get_or};
 ghost use Rattle.std.proofs.lemmas.List.Edits.{sets};
 ghost use Rattle.lists.specs.Lists.{over_front};
 ghost use Rattle.events.specs.Records.{record_of};
 ghost use Rattle.text.specs.Digits.{Put};
 ghost use Rattle.tokens.specs.Tokens.{words};
-ghost use Rattle.lines.specs.Lines.{bare, less_return};
+ghost use Rattle.lines.specs.Lines.{bare};
 ghost use Rattle.recorder.specs.Recorder.{unmarked, shown_byte, quoted, board_wants, submit_wants, clock_wants, withdraw_wants, expected, count_text, wrong_text, long_text, line_made};
-ghost use Rattle.recorder.specs.Machine.{Found, step_of, begun, added, part_fed, feeding, fed_of, closing, closed_of};
+ghost use Rattle.recorder.specs.Machine.{step_of, begun, added, part_fed, feeding, fed_of, closing, closed_of};
 
 use events::Event;
-use lines::Line;
-use tokens::{Sort, Word};
+use lines::{Kind, Wrong};
 
 // Where the machine stands: the number of the line that it reads, the records so far, how many bytes of the line are held,
 // whether it goes on.
@@ -34,108 +33,73 @@ pub struct Fed {
     pub said: usize,
 }
 
-// A text from a place of a buffer on; the place after it.
-fn put(out: &mut [u8], at: usize, bytes: &[u8]) -> usize
-    requires { at + length bytes.now ≤ length out.old }
-    ensures put { Put out.old at bytes.now out.new result }
-    ensures value { result ≡ at + length bytes.now }
-{
-    text::put_bytes(out, at, bytes)
-}
-
 // What a line of each kind has at a word.
-fn put_board_wants(err: &mut [u8], at: usize, word: usize) -> usize
-    requires { at + 100 ≤ length err.old }
-    ensures put { Put err.old at (board_wants word) err.new result }
-    ensures upper_bound { result ≤ at + 100 }
+#[tactic(auto, unfolding(crate::specs::Recorder::board_wants))]
+fn board_wants(word: usize) -> &'static [u8]
+    ensures wants { result.now ≡ board_wants word }
+    ensures upper_bound { length result.now ≤ 70 }
 {
-    if word == 2 {
-        return put(err, at, b"W, a number from 0 to 65535 (board W H [G])");
+    match word {
+        2 => b"W, a number from 0 to 65535 (board W H [G])",
+        3 => b"H, a number from 0 to 65535 (board W H [G])",
+        4 => b"G, a number from 0 to 255, or the end of the line (board W H [G])",
+        _ => b"the end of the line (board W H [G])",
     }
-    if word == 3 {
-        return put(err, at, b"H, a number from 0 to 65535 (board W H [G])");
-    }
-    if word == 4 {
-        return put(
-            err,
-            at,
-            b"G, a number from 0 to 255, or the end of the line (board W H [G])",
-        );
-    }
-    put(err, at, b"the end of the line (board W H [G])")
 }
 
-fn put_submit_wants(err: &mut [u8], at: usize, word: usize) -> usize
-    requires { at + 70 ≤ length err.old }
-    ensures put { Put err.old at (submit_wants word) err.new result }
-    ensures upper_bound { result ≤ at + 70 }
+#[tactic(auto, unfolding(crate::specs::Recorder::submit_wants))]
+fn submit_wants(word: usize) -> &'static [u8]
+    ensures wants { result.now ≡ submit_wants word }
+    ensures upper_bound { length result.now ≤ 70 }
 {
-    if word == 2 {
-        return put(
-            err,
-            at,
-            b"PLANNER, reference, horizon, stuffing, full or a number from 0 to 255",
-        );
+    match word {
+        2 => b"PLANNER, reference, horizon, stuffing, full or a number from 0 to 255",
+        3 => b"ID, a number from 0 to 4294967295",
+        4 => b"W, a number from 0 to 65535",
+        5 => b"H, a number from 0 to 65535",
+        6 => b"E, a number from 0 to 4294967295",
+        7 => b"D, a number from 0 to 4294967295",
+        _ => b"the end of the line",
     }
-    if word == 3 {
-        return put(err, at, b"ID, a number from 0 to 4294967295");
-    }
-    if word == 4 {
-        return put(err, at, b"W, a number from 0 to 65535");
-    }
-    if word == 5 {
-        return put(err, at, b"H, a number from 0 to 65535");
-    }
-    if word == 6 {
-        return put(err, at, b"E, a number from 0 to 4294967295");
-    }
-    if word == 7 {
-        return put(err, at, b"D, a number from 0 to 4294967295");
-    }
-    put(err, at, b"the end of the line")
 }
 
-fn put_clock_wants(err: &mut [u8], at: usize, word: usize) -> usize
-    requires { at + 100 ≤ length err.old }
-    ensures put { Put err.old at (clock_wants word) err.new result }
-    ensures upper_bound { result ≤ at + 100 }
+#[tactic(auto, unfolding(crate::specs::Recorder::clock_wants))]
+fn clock_wants(word: usize) -> &'static [u8]
+    ensures wants { result.now ≡ clock_wants word }
+    ensures upper_bound { length result.now ≤ 70 }
 {
-    if word == 2 {
-        return put(err, at, b"T, a number from 0 to 4294967295 (clock T)");
+    match word {
+        2 => b"T, a number from 0 to 4294967295 (clock T)",
+        _ => b"the end of the line (clock T)",
     }
-    put(err, at, b"the end of the line (clock T)")
 }
 
-fn put_withdraw_wants(err: &mut [u8], at: usize, word: usize) -> usize
-    requires { at + 100 ≤ length err.old }
-    ensures put { Put err.old at (withdraw_wants word) err.new result }
-    ensures upper_bound { result ≤ at + 100 }
+#[tactic(auto, unfolding(crate::specs::Recorder::withdraw_wants))]
+fn withdraw_wants(word: usize) -> &'static [u8]
+    ensures wants { result.now ≡ withdraw_wants word }
+    ensures upper_bound { length result.now ≤ 70 }
 {
-    if word == 2 {
-        return put(err, at, b"ID, a number from 0 to 4294967295 (withdraw ID)");
+    match word {
+        2 => b"ID, a number from 0 to 4294967295 (withdraw ID)",
+        _ => b"the end of the line (withdraw ID)",
     }
-    put(err, at, b"the end of the line (withdraw ID)")
 }
 
-fn put_expected(err: &mut [u8], at: usize, kind: u8, word: usize) -> usize
+fn put_expected(err: &mut [u8], at: usize, kind: Kind, word: usize) -> usize
     requires { at + 100 ≤ length err.old }
     ensures put { Put err.old at (expected kind word) err.new result }
     ensures upper_bound { result ≤ at + 100 }
 {
-    if kind == 0 {
-        return put(err, at, b"board, submit, clock or withdraw");
+    match kind {
+        Kind::Unnamed => text::put_bytes(err, at, b"board, submit, clock or withdraw"),
+        Kind::Board => text::put_bytes(err, at, board_wants(word)),
+        Kind::Submit => {
+            let next = text::put_bytes(err, at, submit_wants(word));
+            text::put_bytes(err, next, b" (submit PLANNER ID W H E D)")
+        }
+        Kind::Clock => text::put_bytes(err, at, clock_wants(word)),
+        Kind::Withdraw => text::put_bytes(err, at, withdraw_wants(word)),
     }
-    if kind == 1 {
-        return put_board_wants(err, at, word);
-    }
-    if kind == 3 {
-        return put_clock_wants(err, at, word);
-    }
-    if kind == 4 {
-        return put_withdraw_wants(err, at, word);
-    }
-    let next = put_submit_wants(err, at, word);
-    put(err, next, b" (submit PLANNER ID W H E D)")
 }
 
 // A byte as it is shown.
@@ -151,12 +115,10 @@ fn put_shown(err: &mut [u8], at: usize, word: &[u8]) -> usize
     ensures put { Put err.old at (map shown_byte word.now) err.new result }
     ensures value { result ≡ at + length word.now }
 {
-    let mut i = 0;
-    while i < word.len() {
-        err[at + i] = shown(word[i]);
-        i += 1;
+    for (i, b) in word.iter().enumerate() {
+        err[at + i] = shown(*b);
     }
-    at + i
+    at + word.len()
 }
 
 // The wrong word in quotes, or that there is none.
@@ -166,15 +128,15 @@ fn put_quoted(err: &mut [u8], at: usize, word: &[u8]) -> usize
     ensures upper_bound { result ≤ at + 44 }
 {
     if tokens::is_empty(word) {
-        return put(err, at, b"the line ends");
+        return text::put_bytes(err, at, b"the line ends");
     }
-    let first = put(err, at, b"'");
+    let first = text::put_bytes(err, at, b"'");
     if 40 < word.len() {
         let cut = put_shown(err, first, &word[0..40]);
-        return put(err, cut, b"..'");
+        return text::put_bytes(err, cut, b"..'");
     }
     let end = put_shown(err, first, word);
-    put(err, end, b"'")
+    text::put_bytes(err, end, b"'")
 }
 
 // How many records were written: the end of a message.
@@ -183,9 +145,9 @@ fn put_count(err: &mut [u8], at: usize, records: u64) -> usize
     ensures put { Put err.old at (count_text records) err.new result }
     ensures upper_bound { result ≤ at + 40 }
 {
-    let number = put(err, at, b"; records written: ");
-    let end = text::put_wide(err, number, records);
-    put(err, end, b"\n")
+    let number = text::put_bytes(err, at, b"; records written: ");
+    let end = text::put_number::<20>(err, number, records);
+    text::put_bytes(err, end, b"\n")
 }
 
 // The message of a wrong line, at the front of the buffer; how many bytes it takes.
@@ -193,20 +155,20 @@ fn put_wrong(
     err: &mut [u8; 512],
     line: u64,
     records: u64,
-    kind: u8,
+    kind: Kind,
     word: usize,
     bytes: &[u8],
 ) -> usize
     ensures value { result ≡ length (wrong_text line records kind word bytes.now) }
     ensures err_after { err.new ≡ over_front (wrong_text line records kind word bytes.now) err.old }
 {
-    let line_at = put(err, 0, b"record: line ");
-    let line_end = text::put_wide(err, line_at, line);
-    let word_at = put(err, line_end, b", word ");
-    let word_end = text::put_wide(err, word_at, word as u64);
-    let quote_at = put(err, word_end, b": ");
+    let line_at = text::put_bytes(err, 0, b"record: line ");
+    let line_end = text::put_number::<20>(err, line_at, line);
+    let word_at = text::put_bytes(err, line_end, b", word ");
+    let word_end = text::put_number::<20>(err, word_at, word as u64);
+    let quote_at = text::put_bytes(err, word_end, b": ");
     let quote_end = put_quoted(err, quote_at, bytes);
-    let wants_at = put(err, quote_end, b": expected ");
+    let wants_at = text::put_bytes(err, quote_end, b": expected ");
     let wants_end = put_expected(err, wants_at, kind, word);
     put_count(err, wants_end, records)
 }
@@ -216,9 +178,9 @@ fn put_too_long(err: &mut [u8; 512], line: u64, records: u64) -> usize
     ensures value { result ≡ length (long_text line records) }
     ensures err_after { err.new ≡ over_front (long_text line records) err.old }
 {
-    let line_at = put(err, 0, b"record: line ");
-    let line_end = text::put_wide(err, line_at, line);
-    let end = put(
+    let line_at = text::put_bytes(err, 0, b"record: line ");
+    let line_end = text::put_number::<20>(err, line_at, line);
+    let end = text::put_bytes(
         err,
         line_end,
         b": expected fewer than 65536 bytes in a line",
@@ -226,40 +188,16 @@ fn put_too_long(err: &mut [u8; 512], line: u64, records: u64) -> usize
     put_count(err, end, records)
 }
 
-// How much of a line stands before a carriage return at its end.
-fn less_return(line: &[u8]) -> usize
-    ensures { (take result line.now ≡ less_return line.now) × (result ≤ length line.now) }
-{
-    let n = line.len();
-    if n == 0 {
-        return 0;
-    }
-    if line[n - 1] == b'\r' {
-        return n - 1;
-    }
-    n
-}
-
-// How much of it stands before a comment too.
-fn bare_end(line: &[u8]) -> usize
-    ensures { (take result line.now ≡ bare line.now) × (result ≤ length line.now) }
-{
-    let n = less_return(line);
-    tokens::find(&line[0..n], Sort::Hash)
-}
-
 // A word of a text, counted from 1.
-fn nth_word(text: &[u8], word: usize) -> Word
-    ensures { Found text.now (word - 1) result }
+fn nth_word(text: &[u8], word: usize) -> &[u8]
+    ensures { result.now ≡ get_or (words text.now) (word - 1) [] }
 {
-    let mut from: usize = 0;
-    let mut i: usize = 1;
-    while i < word {
-        let next = tokens::next(text, from);
-        from = next.to;
-        i += 1;
+    let mut rest = text;
+    for i in 1..word {
+        (_, rest) = tokens::next(rest);
     }
-    tokens::next(text, from)
+    let (found, _) = tokens::next(rest);
+    found
 }
 
 // The message of a line whose word is wrong.
@@ -267,35 +205,28 @@ fn complain(
     err: &mut [u8; 512],
     line: u64,
     records: u64,
-    kind: u8,
+    kind: Kind,
     word: usize,
     text: &[u8],
 ) -> usize
     ensures value { result ≡ length (wrong_text line records kind word (get_or (words (bare text.now)) (word - 1) [])) }
     ensures err_after { err.new ≡ over_front (wrong_text line records kind word (get_or (words (bare text.now)) (word - 1) [])) err.old }
 {
-    let end = bare_end(text);
-    let bare = &text[0..end];
-    let at = nth_word(bare, word);
-    let from = at.from;
-    let to = at.to;
-    put_wrong(err, line, records, kind, word, &bare[from..to])
+    let shown = nth_word(lines::bare(text), word);
+    put_wrong(err, line, records, kind, word, shown)
 }
 
-// Where line n begins: behind a byte order mark.
-fn mark_end(line: u64, text: &[u8]) -> usize
-    ensures { (drop result text.now ≡ unmarked line text.now) × (result ≤ length text.now) }
+// Line n without a byte order mark before it.
+fn unmarked(line: u64, text: &[u8]) -> &[u8]
+    ensures { result.now ≡ unmarked line text.now }
 {
     if line != 1 {
-        return 0;
+        return text;
     }
-    if text.len() < 3 {
-        return 0;
+    match text.strip_prefix(b"\xEF\xBB\xBF") {
+        Some(behind) => behind,
+        None => text,
     }
-    if tokens::is_name(&text[0..3], b"\xEF\xBB\xBF") {
-        return 3;
-    }
-    0
 }
 
 // A record from a place on; its length. There is room for it, as no record is longer than 18 bytes.
@@ -330,23 +261,21 @@ fn put_line(
     ensures out_after { out.new ≡ sets out.old used (line_made line records text.now).output.out }
     ensures err_after { err.new ≡ over_front (line_made line records text.now).output.err err.old }
 {
-    let from = mark_end(line, text);
-    let bare = &text[from..];
-    let said = lines::read(bare);
-    match said {
-        Line::Nothing => Step {
+    let bare = unmarked(line, text);
+    match lines::read(bare) {
+        Ok(None) => Step {
             used: 0,
             said: 0,
             records: 0,
             more: true,
         },
-        Line::Says(event) => Step {
+        Ok(Some(event)) => Step {
             used: put_record(out, used, event),
             said: 0,
             records: 1,
             more: true,
         },
-        Line::Wrong { kind, word } => {
+        Err(Wrong { kind, word }) => {
             out[used] = 0;
             Step {
                 used: 1,
@@ -362,7 +291,7 @@ fn put_line(
 fn add(n: u64, k: u64) -> u64
     ensures { result ≡ added n k }
 {
-    if n <= u64::MAX - k { n + k } else { u64::MAX }
+    n.saturating_add(k)
 }
 
 // Bytes without a line feed behind the held ones, where there is room; `ends` where a line feed stands behind them.
@@ -387,15 +316,10 @@ fn feed_part(
         out[used] = 0;
         let said = put_too_long(err, r.line, r.records);
         return Fed {
-            recorder: Recorder {
-                line: r.line,
-                records: r.records,
-                held: r.held,
-                more: false,
-            },
+            recorder: Recorder { more: false, ..r },
             taken: size,
             used: 1,
-            said: said,
+            said,
         };
     }
     let end = text::put_bytes(held, from, part);
@@ -416,10 +340,8 @@ fn feed_part(
     }
     Fed {
         recorder: Recorder {
-            line: r.line,
-            records: r.records,
             held: end as u16,
-            more: r.more,
+            ..r
         },
         taken: size,
         used: 0,
@@ -463,8 +385,9 @@ pub fn feed(
     let mut at: usize = 0;
     let mut used: usize = 0;
     let mut said: usize = 0;
+    // Stays: no index is counted, a turn takes as many bytes as a part has, and a wrong line ends the run.
     while goes_on(r.more, piece.len() - at, out.len() - used) {
-        let end = at + tokens::find(&piece[at..], Sort::Newline);
+        let end = at + tokens::find(&piece[at..], |b| b == b'\n');
         let p = feed_part(r, held, &piece[at..end], end < piece.len(), out, used, err);
         r = p.recorder;
         at += p.taken;
@@ -474,9 +397,9 @@ pub fn feed(
     let taken = if r.more { at } else { piece.len() };
     Fed {
         recorder: r,
-        taken: taken,
-        used: used,
-        said: said,
+        taken,
+        used,
+        said,
     }
 }
 
@@ -494,10 +417,8 @@ pub fn close(
     ensures used_in_bounds { (result.used ≤ length out.new) × (result.said ≤ length err.new) }
 {
     let stopped = Recorder {
-        line: recorder.line,
-        records: recorder.records,
-        held: recorder.held,
         more: false,
+        ..recorder
     };
     if recorder.more {
         if whole {
@@ -514,7 +435,7 @@ pub fn close(
         return Fed {
             recorder: stopped,
             taken: 0,
-            used: put(out, 0, b"\0"),
+            used: text::put_bytes(out, 0, b"\0"),
             said: 0,
         };
     }

@@ -1,54 +1,45 @@
--- `recorder::put_line` meets its contract: what the line says decides. Assumes nothing.
-use mathlib.Core.Path.{◌≡◌, refl, ap}
-use mathlib.Core.Bool.{true, false}
+-- `recorder::put_line` meets its contract: what a line says makes its record or its message. Assumes nothing.
 use Prim.Native.Nat.{ℕ}
-use lib.ListN.{length}
-use Rattle.tokens.specs.Walks.{part}
-use Rattle.lines.specs.declared.Line.{Line}
-use Rattle.lines.specs.declared.Line.TheVariants.{Nothing, Says, Wrong}
+use mathlib.Core.Path.{◌≡◌, refl, ap, ◌∙◌}
+use mathlib.Core.Bool.{true, false}
+use Rattle.std.proofs.Common.{Some, None, Ok, Err}
+use Rattle.lines.specs.Lines.{Line}
 use Rattle.recorder.specs.declared.Step.{Step}
 use Rattle.recorder.specs.Recorder.{made_of, line_made}
 use Rattle.recorder.proofs.Recording.{made_by}
 use Rattle.recorder.proofs.put_line.Goals as goal
 
-pub returns-in-Nothing : goal.returns-in-Nothing
+pub returns-in-Ok-None : goal.returns-in-Ok-None
 unfolding made_of
-returns-in-Nothing c =
-    let by_read : (x : Line) → c.read-said.result ≡ x → let a = c.args in
-    let text = a.text.now in
-    line_made a.line a.records text ≡ made_of a.line a.records (part c.mark_end-from.result (length text) text) x =
-    λ x q. let a = c.args in made_by a.line a.records a.text.now _ x c.mark_end-from.ensures.0 c.read-said.ensures q in
-    rw (by_read Nothing c.in-Nothing.is) (record {
+returns-in-Ok-None c =
+    let a = c.args in
+    let is : c.read.result ≡ Ok None = c.in-Ok-None.is ∙ ap Ok c.in-Ok-None.field-0-is in
+    rw (made_by a.line a.records a.text.now (Ok None) c.unmarked-bare.ensures c.read.ensures is) (record {
       value = refl;
       out_after = refl;
       err_after = refl;
     })
 
-pub returns-in-Says : goal.returns-in-Says
+pub returns-in-Ok-Some : goal.returns-in-Ok-Some
 unfolding made_of
-returns-in-Says c =
-    let by_read : (x : Line) → c.read-said.result ≡ x → let a = c.args in
-    let text = a.text.now in
-    line_made a.line a.records text ≡ made_of a.line a.records (part c.mark_end-from.result (length text) text) x =
-    λ x q. let a = c.args in made_by a.line a.records a.text.now _ x c.mark_end-from.ensures.0 c.read-said.ensures q in
+returns-in-Ok-Some c =
+    let a = c.args in
+    let is : c.read.result ≡ Ok (Some c.in-Ok-Some.event) = c.in-Ok-Some.is ∙ ap Ok c.in-Ok-Some.field-0-is in
     let p = c.put_record.ensures in
     let step : ℕ → Step = λ n. record { used = n; said = 0; records = 1; more = true } in
-    rw (by_read (Says _) c.in-Says.is) (record {
-      value = ap step p.value;
-      out_after = p.out_after;
+    rw (made_by a.line a.records a.text.now (Ok (Some c.in-Ok-Some.event)) c.unmarked-bare.ensures c.read.ensures is) (record {
+      value = ap step (rw c.in-Ok-Some.field-0-is at p.value);
+      out_after = rw c.in-Ok-Some.field-0-is at p.out_after;
       err_after = refl;
     })
 
-pub returns-in-Wrong : goal.returns-in-Wrong
+pub returns-in-Err : goal.returns-in-Err
 unfolding made_of
-returns-in-Wrong c =
-    let by_read : (x : Line) → c.read-said.result ≡ x → let a = c.args in
-    let text = a.text.now in
-    line_made a.line a.records text ≡ made_of a.line a.records (part c.mark_end-from.result (length text) text) x =
-    λ x q. let a = c.args in made_by a.line a.records a.text.now _ x c.mark_end-from.ensures.0 c.read-said.ensures q in
+returns-in-Err c =
+    let a = c.args in
     let p = c.complain.ensures in
     let step : ℕ → Step = λ n. record { used = 1; said = n; records = 0; more = false } in
-    rw (by_read (Wrong _ _) c.in-Wrong.is) (record {
+    rw (made_by a.line a.records a.text.now (Err c.in-Err.field-0) c.unmarked-bare.ensures c.read.ensures c.in-Err.is) (record {
       value = ap step p.value;
       out_after = refl;
       err_after = p.err_after;
