@@ -8,9 +8,9 @@ use lib.Dec.{ltb, eqb}
 use lib.ListN.{length, take, drop, length-append, length-take}
 use Rattle.steps.specs.declared.State.{State}
 use Rattle.events.specs.declared.Event.{Event}
-use Rattle.events.specs.declared.Reading.{Reading}
-use Rattle.events.specs.declared.Reading.TheVariants.{End, Got, CutShort, Unknown}
-use Rattle.events.specs.Records.{read_from}
+use Rattle.std.specs.Prelude.{Ok, Err, Some, None}
+use Rattle.events.specs.Records.{Reading, read_from}
+use Rattle.events.specs.declared.ReadError.TheVariants.{CutShort, Unknown}
 use Rattle.session.specs.declared.Ending.{Ending}
 use Rattle.session.specs.declared.Ending.TheVariants.{NotYet, AtEnd, In15, In16, AtLast, PastLast}
 use Rattle.session.specs.Recording.{Line, Story, outcome, story_from, story, Run, ran_from, room_for, most_events, first_state}
@@ -32,10 +32,10 @@ run-events (suc room) s n bytes = go (λ c m ws. run-events room c m ws) (read_f
     Same x = length x.lines ≡ length x.events
 
     go : ((c : State) (m : ℕ) (ws : List ℕ) → Same (ran_from room c m ws)) → (r : Reading) → read_from bytes ≡ r → Same (ran_from (suc room) s n bytes)
-    go next End e = rw (e, ran_from)
-    go next (CutShort k) e = rw (e, ran_from)
-    go next (Unknown k) e = rw (e, ran_from)
-    go next (Got v size) e = subst Same (sym (ran-got room s n bytes v size e)) (ap suc (next (outcome s v).state (suc n) (drop size bytes)))
+    go next (Ok None) e = rw (e, ran_from)
+    go next (Err (CutShort k)) e = rw (e, ran_from)
+    go next (Err (Unknown k)) e = rw (e, ran_from)
+    go next (Ok (Some (v, size))) e = subst Same (sym (ran-got room s n bytes v size e)) (ap suc (next (outcome s v).state (suc n) (drop size bytes)))
 
 -- A PIECE: so many events more
 module _ (r : Reader) where
@@ -53,10 +53,9 @@ module _ (r : Reader) where
       same = ap (λ n. r.number + n) (run-events (room_for words r.number) r.state r.number bytes)
 
       stops : (x : Reading) → Counts (stops_before r run (drop run.taken bytes) (length bytes - kept) x)
-      stops End = unfold stops_before in same
-      stops (Got v n) = unfold stops_before in same
-      stops (CutShort k) = unfold stops_before in same
-      stops (Unknown k) = unfold stops_before in same
+      stops (Ok x) = unfold stops_before in same
+      stops (Err (CutShort k)) = unfold stops_before in same
+      stops (Err (Unknown k)) = unfold stops_before in same
 
       go : (t : Bool) → Counts (cond t (stops_before r run (drop run.taken bytes) (length bytes - kept) (read_from (drop run.taken bytes)))
           record {
@@ -87,10 +86,9 @@ module _ (r : Reader) where
       run = ran_from (room_for words r.number) r.state r.number bytes
 
       stops : (x : Reading) → (stops_before r run (drop run.taken bytes) (length bytes - kept) x).taken ≤ length bytes - kept
-      stops End = unfold stops_before in omega arith
-      stops (Got v n) = unfold stops_before in omega arith
-      stops (CutShort k) = unfold stops_before in omega arith
-      stops (Unknown k) = unfold stops_before in omega arith
+      stops (Ok x) = unfold stops_before in omega arith
+      stops (Err (CutShort k)) = unfold stops_before in omega arith
+      stops (Err (Unknown k)) = unfold stops_before in omega arith
 
       go : (t : Bool) → (cond t (stops_before r run (drop run.taken bytes) (length bytes - kept) (read_from (drop run.taken bytes)))
           record {
@@ -134,10 +132,10 @@ story-few (suc left) s n bytes f g = go (λ c m ws. story-few left c m ws) (read
     Few most x = (x.end ≡ AtLast → ⊥) → (x.end ≡ PastLast → ⊥) → length x.events < most
 
     go : ((c : State) (m : ℕ) (ws : List ℕ) → Few left (story_from left c m ws)) → (r : Reading) → read_from bytes ≡ r → length (story_from (suc left) s n bytes).events < suc left
-    go next End e = subst (λ (x : Story). length x.events < suc left) (sym (story-end left s n bytes e)) (omega arith)
-    go next (CutShort k) e = subst (λ (x : Story). length x.events < suc left) (sym (story-cut left s n bytes k e)) (omega arith)
-    go next (Unknown k) e = subst (λ (x : Story). length x.events < suc left) (sym (story-strange left s n bytes k e)) (omega arith)
-    go next (Got v size) e =
+    go next (Ok None) e = subst (λ (x : Story). length x.events < suc left) (sym (story-end left s n bytes e)) (omega arith)
+    go next (Err (CutShort k)) e = subst (λ (x : Story). length x.events < suc left) (sym (story-cut left s n bytes k e)) (omega arith)
+    go next (Err (Unknown k)) e = subst (λ (x : Story). length x.events < suc left) (sym (story-strange left s n bytes k e)) (omega arith)
+    go next (Ok (Some (v, size))) e =
         let q = story-got left s n bytes v size e in
         let h = next (outcome s v).state (suc n) (drop size bytes) (λ x. f (ap (λ (y : Story). y.end) q ∙ x)) (λ x. g (ap (λ (y : Story). y.end) q ∙ x)) in
         subst (λ (x : Story). length x.events < suc left) (sym q) (omega arith)

@@ -13,9 +13,9 @@ use lib.ListN.{length, get_or, drop, length-append}
 use Rattle.lists.specs.Lists.{◌∈◌, keep, all?, each, range}
 use Rattle.tasks.specs.Numbers.{last_instant}
 use Rattle.text.specs.Text.{ascii}
-use Rattle.events.specs.declared.Reading.{Reading}
-use Rattle.events.specs.declared.Reading.TheVariants.{End, Got, CutShort, Unknown}
-use Rattle.events.specs.Records.{read_from}
+use Rattle.std.specs.Prelude.{Ok, Err, Some, None}
+use Rattle.events.specs.Records.{Reading, read_from}
+use Rattle.events.specs.declared.ReadError.TheVariants.{CutShort, Unknown}
 use Rattle.steps.specs.declared.State.{State}
 use Rattle.session.specs.Recording.{outcome, Story, story_from, most_events, first_state}
 use Rattle.session.proofs.Recorded.{story-got, story-end, story-cut, story-strange}
@@ -48,10 +48,10 @@ story-room (suc left) (suc more) s n m bytes h e = go (λ c a b ws q. story-room
     go : ((c : State) (a b : ℕ) (ws : List ℕ) → whole? (story_from left c a ws).end ≡ true
         → ((story_from more c b ws).events ≡ (story_from left c a ws).events) × ((story_from more c b ws).end ≡ (story_from left c a ws).end))
         → (r : Reading) → read_from bytes ≡ r → Same (story_from (suc left) s n bytes) (story_from (suc more) s m bytes)
-    go next End q = both (story-end left s n bytes q) (story-end more s m bytes q) (refl, refl)
-    go next (CutShort k) q = both (story-cut left s n bytes k q) (story-cut more s m bytes k q) (refl, refl)
-    go next (Unknown k) q = both (story-strange left s n bytes k q) (story-strange more s m bytes k q) (refl, refl)
-    go next (Got v size) q =
+    go next (Ok None) q = both (story-end left s n bytes q) (story-end more s m bytes q) (refl, refl)
+    go next (Err (CutShort k)) q = both (story-cut left s n bytes k q) (story-cut more s m bytes k q) (refl, refl)
+    go next (Err (Unknown k)) q = both (story-strange left s n bytes k q) (story-strange more s m bytes k q) (refl, refl)
+    go next (Ok (Some (v, size))) q =
         let r = next (outcome s v).state (suc n) (suc m) (drop size bytes) (sym (ap (λ (x : Story). whole? x.end) (story-got left s n bytes v size q)) ∙ e) in
         both (story-got left s n bytes v size q) (story-got more s m bytes v size q) (ap (λ l. v ∷ l) r.0, r.1)
 

@@ -20,8 +20,9 @@ use Rattle.board.specs.declared.Board.{Board}
 use Rattle.board.specs.Refusals.{live_of, horizon_of}
 use Rattle.board.proofs.Kept.{SoundBoard, slot_at}
 use Rattle.events.specs.declared.Event.{Event}
-use Rattle.events.specs.declared.Reading.{Reading}
-use Rattle.events.specs.declared.Reading.TheVariants.{End, Got, CutShort, Unknown}
+use Rattle.std.specs.Prelude.{Ok, Err, Some, None}
+use Rattle.events.specs.Records.{Reading}
+use Rattle.events.specs.declared.ReadError.TheVariants.{CutShort, Unknown}
 use Rattle.events.proofs.Found.{Known, NoKind}
 
 -- what is asked of a call's lifetimes and arguments holds of any
@@ -129,10 +130,10 @@ horizon-rows b words = not_sound b ∷ (17 when (words < 3 * length (horizon_of 
 
 -- WHAT READING IS: "No kind byte left is the end"; a known kind and its body; "a known kind with too few bytes is 15"; an unknown kind byte is 16
 pub data Reads : List ℕ → Reading → Type 0 where
-  at-end : Reads [] End
-  whole : {kind n : ℕ} {f : List ℕ → Event} {body : List ℕ} → Known kind n f → n ≤ length body → Reads (kind ∷ body) (Got (f body) (suc n))
-  cut : {kind n : ℕ} {f : List ℕ → Event} {body : List ℕ} → Known kind n f → length body < n → Reads (kind ∷ body) (CutShort kind)
-  unknown : {kind : ℕ} {body : List ℕ} → NoKind kind → Reads (kind ∷ body) (Unknown kind)
+  at-end : Reads [] (Ok None)
+  whole : {kind n : ℕ} {f : List ℕ → Event} {body : List ℕ} → Known kind n f → n ≤ length body → Reads (kind ∷ body) (Ok (Some (f body, suc n)))
+  cut : {kind n : ℕ} {f : List ℕ → Event} {body : List ℕ} → Known kind n f → length body < n → Reads (kind ∷ body) (Err (CutShort kind))
+  unknown : {kind : ℕ} {body : List ℕ} → NoKind kind → Reads (kind ∷ body) (Err (Unknown kind))
 
 -- "running exactly if its start is ≤ now and otherwise waiting"
 abbrev pub begun_by : ℕ → ℕ → Phase

@@ -43,11 +43,10 @@ use Rattle.board.proofs.Asking.{given, IsOpening, given-first, left-opens, opens
 use Rattle.board.proofs.Looked.{listed-board, counted-board}
 use Rattle.board.specs.Answers.{told}
 use Rattle.events.specs.declared.Event.{Event}
-use Rattle.events.specs.declared.Reading.TheVariants.{Got, End, CutShort, Unknown}
-use Rattle.events.specs.Records.{record_of, read_from, written, written_buffer, told_read, told_written}
+use Rattle.std.specs.Prelude.{Ok, Err, Some, None}
+use Rattle.events.specs.Records.{Reading, record_of, read_from, written, written_buffer, told_read, told_written}
+use Rattle.events.specs.declared.ReadError.TheVariants.{CutShort, Unknown}
 use Rattle.events.proofs.RoundTrip.{Fits, Bytes, read-written, written-again}
-use Rattle.events.specs.declared.Reading.{Reading}
-use Rattle.events.specs.declared.Written.TheVariants.{NoRoom, Length}
 use Rattle.events.proofs.Writing.{short-answer, short-buffer, room-answer, room-buffer}
 use Rattle.promises.proofs.Clauses.{Any, Row, First, Clear, Given, Holding, numbers, Rises, Steps, Reads, too-lax, new-board-rows, submission-rows, instant-rows}
 use Rattle.promises.proofs.Clauses.{withdrawal-rows, openings-rows, horizon-rows, Books, Ages, Removes, ListsRuns, CountsHeld, Stamps}
@@ -198,22 +197,22 @@ demand-1-reader = what-reads
 pub demand-1-reader-only : {l : List ℕ} {r : Reading} → Reads l r → read_from l ≡ r
 demand-1-reader-only = reads-that
 
-pub demand-1-reader-told : (kind : ℕ) → (told_read (CutShort kind) ≡ record { number = 15; kind = kind; taken = 0 })
-    × (told_read (Unknown kind) ≡ record { number = 16; kind = kind; taken = 0 }) × (told_read End ≡ record { number = 0; kind = 0; taken = 0 })
+pub demand-1-reader-told : (kind : ℕ) → (told_read (Err (CutShort kind)) ≡ record { number = 15; kind = kind; taken = 0 })
+    × (told_read (Err (Unknown kind)) ≡ record { number = 16; kind = kind; taken = 0 }) × (told_read (Ok None) ≡ record { number = 0; kind = 0; taken = 0 })
 unfolding told_read
 demand-1-reader-told kind = (refl, refl, refl)
 
 -- "writes nothing to a lent buffer": the writer's 17, exactly when the record is longer than the buffer, and then every byte stays
 pub demand-1-writer : (v : Event) (buffer : List ℕ) → length buffer < length (record_of v)
-    → (written v (length buffer) ≡ NoRoom) × (written_buffer v buffer ≡ buffer)
+    → (written v (length buffer) ≡ Err (record {})) × (written_buffer v buffer ≡ buffer)
 demand-1-writer v buffer h = (short-answer v buffer h, short-buffer v buffer h)
 
 -- otherwise its length is told, it stands over the front, and the bytes beyond it stay
 pub demand-1-writer-done : (v : Event) (buffer : List ℕ) → length (record_of v) ≤ length buffer
-    → (written v (length buffer) ≡ Length (length (record_of v))) × (written_buffer v buffer ≡ record_of v ++ drop (length (record_of v)) buffer)
+    → (written v (length buffer) ≡ Ok (length (record_of v))) × (written_buffer v buffer ≡ record_of v ++ drop (length (record_of v)) buffer)
 demand-1-writer-done v buffer h = (room-answer v buffer h, room-buffer v buffer h)
 
-pub demand-1-writer-told : (n : ℕ) → (told_written NoRoom ≡ record { number = 17; length = 0 }) × (told_written (Length n) ≡ record { number = 0; length = n })
+pub demand-1-writer-told : (n : ℕ) → (told_written (Err (record {})) ≡ record { number = 17; length = 0 }) × (told_written (Ok n) ≡ record { number = 0; length = n })
 unfolding told_written
 demand-1-writer-told n = (refl, refl)
 
@@ -348,21 +347,21 @@ pub demand-2-stamps : (t : ℕ) (ks : List Task) → (length (stamped_all t ks) 
 demand-2-stamps = stamps-all
 
 -- "Event records read back as they were written"
-pub demand-2-read-back : (v : Event) → Fits v → (rest : List ℕ) → read_from (record_of v ++ rest) ≡ Got v (length (record_of v))
+pub demand-2-read-back : (v : Event) → Fits v → (rest : List ℕ) → read_from (record_of v ++ rest) ≡ Ok (Some (v, length (record_of v)))
 demand-2-read-back = read-written
 
 -- from a buffer with room, whatever follows it
 pub demand-2-buffer-read-back : (v : Event) → Fits v → (buffer rest : List ℕ) → length (record_of v) ≤ length buffer
-    → read_from (written_buffer v buffer ++ rest) ≡ Got v (length (record_of v))
+    → read_from (written_buffer v buffer ++ rest) ≡ Ok (Some (v, length (record_of v)))
 demand-2-buffer-read-back = buffer-reads-back
 
 -- "and written again give the same bytes"
-pub demand-2-written-again : (l : List ℕ) → Bytes l → (v : Event) (size : ℕ) → read_from l ≡ Got v size → record_of v ≡ take size l
+pub demand-2-written-again : (l : List ℕ) → Bytes l → (v : Event) (size : ℕ) → read_from l ≡ Ok (Some (v, size)) → record_of v ≡ take size l
 demand-2-written-again = written-again
 
 -- into a buffer with room
-pub demand-2-buffer-written-again : (l : List ℕ) → Bytes l → (v : Event) (size : ℕ) → read_from l ≡ Got v size → (buffer : List ℕ) → size ≤ length buffer
-    → (written v (length buffer) ≡ Length size) × (written_buffer v buffer ≡ take size l ++ drop size buffer)
+pub demand-2-buffer-written-again : (l : List ℕ) → Bytes l → (v : Event) (size : ℕ) → read_from l ≡ Ok (Some (v, size)) → (buffer : List ℕ) → size ≤ length buffer
+    → (written v (length buffer) ≡ Ok size) × (written_buffer v buffer ≡ take size l ++ drop size buffer)
 demand-2-buffer-written-again = buffer-written-again
 
 -- DEMAND 3. "For a sound board and a well-formed task whose deadline can still be reached"; "Demand 3 then speaks of tasks within this laxity" (document 02, Q-2):

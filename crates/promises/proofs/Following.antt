@@ -40,8 +40,7 @@ use Rattle.board.specs.Calls.{or_refused, with_tasks, submitted, board_at, clock
 use Rattle.board.proofs.Kept.{SoundBoard, slot_at}
 use Rattle.board.proofs.Placed.{placed-books, unplaced-same}
 use Rattle.events.specs.declared.Event.{Event}
-use Rattle.events.specs.declared.Reading.TheVariants.{Got}
-use Rattle.events.specs.declared.Written.TheVariants.{Length}
+use Rattle.std.specs.Prelude.{Ok, Some}
 use Rattle.events.specs.Records.{record_of, read_from, written, written_buffer}
 use Rattle.events.proofs.RoundTrip.{Fits, Bytes, read-written, written-again}
 use Rattle.events.proofs.Writing.{room-answer, room-buffer}
@@ -310,15 +309,15 @@ opened-board b a s c words = by (refused_openings b a)
 
 -- RECORDS in a buffer
 pub buffer-reads-back : (v : Event) → Fits v → (buffer rest : List ℕ) → length (record_of v) ≤ length buffer
-    → read_from (written_buffer v buffer ++ rest) ≡ Got v (length (record_of v))
+    → read_from (written_buffer v buffer ++ rest) ≡ Ok (Some (v, length (record_of v)))
 buffer-reads-back v f buffer rest h =
     rw (room-buffer v buffer h, append_assoc (record_of v) (drop (length (record_of v)) buffer) rest)
     (read-written v f (drop (length (record_of v)) buffer ++ rest))
 
-pub buffer-written-again : (l : List ℕ) → Bytes l → (v : Event) (size : ℕ) → read_from l ≡ Got v size → (buffer : List ℕ) → size ≤ length buffer
-    → (written v (length buffer) ≡ Length size) × (written_buffer v buffer ≡ take size l ++ drop size buffer)
+pub buffer-written-again : (l : List ℕ) → Bytes l → (v : Event) (size : ℕ) → read_from l ≡ Ok (Some (v, size)) → (buffer : List ℕ) → size ≤ length buffer
+    → (written v (length buffer) ≡ Ok size) × (written_buffer v buffer ≡ take size l ++ drop size buffer)
 buffer-written-again l h v size e buffer room =
     let r = written-again l h v size e in
     let n : length (record_of v) ≡ size = ap length r ∙ length-take-le size l (taken-there l v size e).1 in
     let fits : length (record_of v) ≤ length buffer = omega arith in
-    (room-answer v buffer fits ∙ ap Length n, room-buffer v buffer fits ∙ rw (n, r))
+    (room-answer v buffer fits ∙ ap (λ x. Ok x) n, room-buffer v buffer fits ∙ rw (n, r))

@@ -12,9 +12,9 @@ use lib.ListN.{length, drop}
 use Rattle.lists.specs.Lists.{◌∈◌, over_front}
 use Rattle.tasks.specs.declared.Task.{Task}
 use Rattle.events.specs.declared.Event.{Event}
-use Rattle.events.specs.declared.Reading.{Reading}
-use Rattle.events.specs.declared.Reading.TheVariants.{End, Got, CutShort, Unknown}
-use Rattle.events.specs.Records.{kind_of, read_from}
+use Rattle.std.specs.Prelude.{Ok, Err, Some, None}
+use Rattle.events.specs.Records.{Reading, kind_of, read_from}
+use Rattle.events.specs.declared.ReadError.TheVariants.{CutShort, Unknown}
 use Rattle.events.proofs.RoundTrip.{Bytes, Fits, board, submission, instant, name, gridded as grid-board}
 use Rattle.events.proofs.Widths.{bytes_drop, read_fits}
 use Rattle.steps.specs.declared.State.{State}
@@ -50,7 +50,7 @@ fits-named (grid-board {W} {H} {g} p q r) = gridded W H g
 -- a run, event by event
 data Played : State → ℕ → List ℕ → List Line → List Event → State → Type 0 where
   none : {s : State} {n : ℕ} {bytes : List ℕ} → Played s n bytes [] [] s
-  more : {s t : State} {n size : ℕ} {bytes : List ℕ} {ls : List Line} {v : Event} {vs : List Event} → read_from bytes ≡ Got v size
+  more : {s t : State} {n size : ℕ} {bytes : List ℕ} {ls : List Line} {v : Event} {vs : List Event} → read_from bytes ≡ Ok (Some (v, size))
       → Played (outcome s v).state (suc n) (drop size bytes) ls vs t → Played s n bytes (line_of (suc n) v (outcome s v).answer ∷ ls) (v ∷ vs) t
 
 played : (room : ℕ) (s : State) (n : ℕ) (bytes : List ℕ) → let r = ran_from room s n bytes in Played s n bytes r.lines r.events r.state
@@ -60,10 +60,10 @@ played (suc room) s n bytes = go (λ t m ws. played room t m ws) (read_from byte
   where
     go : ((t : State) (m : ℕ) (ws : List ℕ) → let r = ran_from room t m ws in Played t m ws r.lines r.events r.state)
         → (x : Reading) → read_from bytes ≡ x → let r = ran_from (suc room) s n bytes in Played s n bytes r.lines r.events r.state
-    go next End e = rw (e, ran_from) none
-    go next (CutShort k) e = rw (e, ran_from) none
-    go next (Unknown k) e = rw (e, ran_from) none
-    go next (Got v size) e = rw (e, ran_from) (more e (next (outcome s v).state (suc n) (drop size bytes)))
+    go next (Ok None) e = rw (e, ran_from) none
+    go next (Err (CutShort k)) e = rw (e, ran_from) none
+    go next (Err (Unknown k)) e = rw (e, ran_from) none
+    go next (Ok (Some (v, size))) e = rw (e, ran_from) (more e (next (outcome s v).state (suc n) (drop size bytes)))
 
 played-lines : {s t : State} {n : ℕ} {bytes : List ℕ} {ls : List Line} {vs : List Event} → Played s n bytes ls vs t → ls ≡ lines_of n s vs
 unfolding lines_of

@@ -32,8 +32,7 @@ use Rattle.board.specs.Refusals.{refused_submit}
 use Rattle.board.specs.Calls.{or_refused, taken, answered, submitted}
 use Rattle.planners.specs.Openings.{Place}
 use Rattle.planners.specs.Planners.{planned}
-use Rattle.events.specs.declared.Reading.{Reading}
-use Rattle.events.specs.Records.{read_from}
+use Rattle.events.specs.Records.{Reading, read_from}
 use Rattle.events.proofs.Found.{Found, got, cut as is_cut, none as no_kind, found, known as known-kind, short, unknown as unknown-kind}
 use Rattle.events.proofs.Calls.{judges-none}
 use Rattle.promises.proofs.Clauses.{Reads, at-end, whole, cut, unknown}

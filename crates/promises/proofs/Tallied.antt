@@ -7,7 +7,7 @@ use Rattle.events.specs.Records.{record_of}
 use Rattle.laxity.specs.Laxity.{class_of}
 use Rattle.sheets.specs.Sheets.{row_line, row_in, foot_text, sheet_text}
 use Rattle.stops.specs.Stops.{stopped_at, stop_words, stop_message, stop_said}
-use Rattle.figures.specs.Figures.{trials_from, verdict_of, verdicts, of, came, waited_in, figures_of, sheet_with, sheet_of}
+use Rattle.figures.specs.Figures.{trials_from, verdict_of, verdicts, place_of, of, came, waited_in, figures_of, sheet_with, sheet_of}
 use Rattle.summing.specs.Summary.{sum_from, summary_text}
 use Rattle.promises.specs.Cases.{ask}
 use Rattle.promises.specs.ProvingSet.{listing_events}
@@ -19,7 +19,7 @@ unfolding row_line row_in foot_text sheet_text stopped_at stop_words stop_messag
 open-text = tt
 
 open-summary : Unit {0}
-unfolding trials_from verdict_of verdicts of came waited_in figures_of sheet_with sheet_of arrivals table_events figures_in file_of none_of listing_summary open-text open-book
+unfolding trials_from verdict_of verdicts place_of of came waited_in figures_of sheet_with sheet_of arrivals table_events figures_in file_of none_of listing_summary open-text open-book
 open-summary = tt
 
 -- THE LISTING OF DOCUMENT 01, from the bytes of its records to the bytes that `summary` prints

@@ -26,6 +26,7 @@ use Rattle.events.specs.declared.Event.TheVariants.{Submit}
 use Rattle.events.specs.Records.{submission_of}
 use Rattle.steps.specs.declared.State.{State}
 use Rattle.session.specs.Recording.{outcome}
+use Rattle.figures.specs.declared.Fate.TheVariants.{Refused}
 use Rattle.figures.specs.Figures.{verdict_of}
 
 -- a place is told as 0, a rejection as 10
@@ -57,6 +58,6 @@ other l h = sym (past-classes l (λ e. omega (arith, h, e)) (past 51 (omega arit
 
 pub lax-other : (s : State) (n : ℕ) (a : Ask) → (outcome s (Submit n a)).answer.number ≡ 18
     → verdict_of s.board.now (Submit n a) (outcome s (Submit n a)).answer.number (outcome s (Submit n a)).answer.start
-    ≡ record { planner = n; class = 3; fate = 2; waited = 0 } ∷ []
+    ≡ record { planner = n; class = 3; fate = Refused; waited = 0 } ∷ []
 unfolding outcome verdict_of
 lax-other s n a e = rw (e, other (laxity s.board.now a.e a.d) (over-limit s.board n (submission_of a) e)) refl
