@@ -7,43 +7,42 @@ use std::io;
 use std::process::ExitCode;
 
 fn run(rt: &HostRuntime) -> io::Result<()> {
-    let mut text = system::page();
+    let mut text = [0u8; 4096];
     let asked = system::asked(rt, &mut text);
     let question = ask_text::question_of(&text, asked.size);
     if ask_text::shows_manual(asked, question) {
         let size = manuals::put_ask(&mut text, asked.help);
-        system::tell(rt, b"ask: ", asked.help, &text[0..size])?;
+        system::tell(rt, b"ask: ", asked.help, &text[..size])?;
         return Ok(());
     }
-    let mut input = system::open(rt, b"ask: ", asked.file);
-    let mut piece = system::large_page();
+    let Some(mut input) = system::open(rt, b"ask: ", asked.file) else {
+        return Ok(());
+    };
+    let mut piece = [0u8; 65536];
     let mut a = asking::begin(question);
-    let mut turns = system::turns_left(input.more, u64::MAX);
-    while 0 < turns {
+    for _ in 0..u64::MAX {
         input = system::fill(rt, input, b"ask: ", &mut piece);
-        let from = input.from;
-        let to = input.to;
-        let fed = asking::feed(a, &piece[from..to]);
+        let fed = asking::feed(a, &piece[input.from..input.to]);
         a = fed.asking;
         input = system::pass(input, fed.taken);
-        turns = system::turns_left(input.more, turns);
+        if !input.more {
+            break;
+        }
     }
     if input.failed {
         return Ok(());
     }
     let mut err = [0u8; 512];
     let end = asking::close(a, &mut piece, &mut err);
-    let used = end.used;
-    let said = end.said;
-    let done = system::write(rt, b"ask: ", &piece[0..used], &err[0..said])?;
+    let mut done = system::write(rt, b"ask: ", &piece[..end.used], &err[..end.said])?;
     a = end.asking;
-    turns = system::turns_left(done & a.more, u64::MAX);
-    while 0 < turns {
+    for _ in 0..u64::MAX {
+        if !(done & a.more) {
+            break;
+        }
         let part = asking::next(a, &mut piece);
-        let used = part.used;
-        let done = system::write(rt, b"ask: ", &piece[0..used], b"")?;
+        done = system::write(rt, b"ask: ", &piece[..part.used], b"")?;
         a = part.asking;
-        turns = system::turns_left(done & a.more, turns);
     }
     Ok(())
 }

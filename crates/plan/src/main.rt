@@ -7,33 +7,31 @@ use std::process::ExitCode;
 
 fn run(rt: &HostRuntime) -> io::Result<()> {
     let order = system::ordered(rt, true);
-    let mut page = system::page();
+    let mut page = [0u8; 4096];
     if order.help | order.wrong {
         let size = manuals::put_plan(&mut page, order.help);
-        system::tell(rt, b"plan: ", order.help, &page[0..size])?;
+        system::tell(rt, b"plan: ", order.help, &page[..size])?;
         return Ok(());
     }
-    let mut input = system::open(rt, b"plan: ", order.file);
-    if input.failed {
+    let Some(mut input) = system::open(rt, b"plan: ", order.file) else {
         return Ok(());
-    }
-    let mut piece = system::large_page();
-    let mut text = system::large_page();
+    };
+    let mut piece = [0u8; 65536];
+    let mut text = [0u8; 65536];
     let mut header = [0u8; 64];
     let size = listing::put_header(&mut header, order.words);
     let mut l = listing::begin(order.words);
-    let begun = system::write(rt, b"plan: ", &header[0..size], b"")?;
-    let mut turns = system::turns_left(begun, u64::MAX);
-    while 0 < turns {
+    let mut on = system::write(rt, b"plan: ", &header[..size], b"")?;
+    for _ in 0..u64::MAX {
+        if !on {
+            break;
+        }
         input = system::fill(rt, input, b"plan: ", &mut piece);
-        let from = input.from;
-        let to = input.to;
-        let fed = listing::feed(l, &piece[from..to], &mut text);
-        let used = fed.used;
-        let done = system::write(rt, b"plan: ", &text[0..used], b"")?;
+        let fed = listing::feed(l, &piece[input.from..input.to], &mut text);
+        let done = system::write(rt, b"plan: ", &text[..fed.used], b"")?;
         l = fed.listing;
         input = system::pass(input, fed.taken);
-        turns = system::turns_left(done & input.more & listing::goes_on(l), turns);
+        on = done & input.more & listing::goes_on(l);
     }
     if input.failed {
         return Ok(());
@@ -41,9 +39,7 @@ fn run(rt: &HostRuntime) -> io::Result<()> {
     let mut line = [0u8; 128];
     let mut message = [0u8; 128];
     let end = listing::close(l, &mut line, &mut message);
-    let used = end.used;
-    let said = end.said;
-    system::write(rt, b"plan: ", &line[0..used], &message[0..said])?;
+    system::write(rt, b"plan: ", &line[..end.used], &message[..end.said])?;
     Ok(())
 }
 

@@ -7,38 +7,33 @@ use std::process::ExitCode;
 
 fn run(rt: &HostRuntime) -> io::Result<()> {
     let order = system::ordered(rt, false);
-    let mut page = system::page();
+    let mut page = [0u8; 4096];
     if order.help | order.wrong {
         let size = manuals::put_record(&mut page, order.help);
-        system::tell(rt, b"record: ", order.help, &page[0..size])?;
+        system::tell(rt, b"record: ", order.help, &page[..size])?;
         return Ok(());
     }
-    let mut input = system::open(rt, b"record: ", order.file);
-    if input.failed {
+    let Some(mut input) = system::open(rt, b"record: ", order.file) else {
         return Ok(());
-    }
-    let mut piece = system::large_page();
-    let mut held = system::large_page();
-    let mut out = system::large_page();
+    };
+    let mut piece = [0u8; 65536];
+    let mut held = [0u8; 65536];
+    let mut out = [0u8; 65536];
     let mut err = [0u8; 512];
     let mut r = recorder::begin();
-    let mut turns = u64::MAX;
-    while 0 < turns {
+    for _ in 0..u64::MAX {
         input = system::fill(rt, input, b"record: ", &mut piece);
-        let from = input.from;
-        let to = input.to;
-        let fed = recorder::feed(r, &mut held, &piece[from..to], &mut out, &mut err);
-        let used = fed.used;
-        let said = fed.said;
-        let done = system::write(rt, b"record: ", &out[0..used], &err[0..said])?;
+        let waiting = &piece[input.from..input.to];
+        let fed = recorder::feed(r, &mut held, waiting, &mut out, &mut err);
+        let done = system::write(rt, b"record: ", &out[..fed.used], &err[..fed.said])?;
         r = fed.recorder;
         input = system::pass(input, fed.taken);
-        turns = system::turns_left(done & input.more & r.more, turns);
+        if !(done & input.more & r.more) {
+            break;
+        }
     }
     let end = recorder::close(r, &held, !input.failed, &mut out, &mut err);
-    let used = end.used;
-    let said = end.said;
-    system::write(rt, b"record: ", &out[0..used], &err[0..said])?;
+    system::write(rt, b"record: ", &out[..end.used], &err[..end.said])?;
     Ok(())
 }
 

@@ -13,7 +13,6 @@ use Rattle.tasks.specs.Numbers.{last_instant}
 use Rattle.text.specs.Text.{ascii}
 use Rattle.text.specs.Output.{Output}
 use Rattle.sheets.specs.Sheets.{plus, wrapped, sheet_text}
-use Rattle.board.specs.Answers.{told}
 use Rattle.events.specs.declared.Event.{Event}
 use Rattle.events.specs.Records.{read_from}
 use Rattle.session.specs.declared.Ending.{Ending}

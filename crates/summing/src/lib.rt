@@ -43,7 +43,7 @@ pub fn begin() -> Summing
 {
     let reader = reader::begin();
     Summing {
-        reader: reader,
+        reader,
         figures: figures::no_figures(),
         before: 0,
     }
@@ -53,16 +53,9 @@ pub fn begin() -> Summing
 fn reader_at(number: u32) -> Reader
     ensures { result ≡ reader_at number }
 {
-    let first = reader::begin();
-    let state = first.state;
-    let held = first.held;
-    let end = first.end;
     Reader {
-        state: state,
-        number: number,
-        held: held,
-        size: 0,
-        end: end,
+        number,
+        ..reader::begin()
     }
 }
 
@@ -80,23 +73,14 @@ pub fn begin_file(s: Summing) -> Summing
     ensures { result ≡ next_file s }
 {
     let last = s.reader;
-    let so_far = s.figures;
-    let one = one_file();
-    let sums = sheets::add(&so_far, &one);
+    let sums = sheets::add(&s.figures, &one_file());
     let figures = sums.figures;
     let reader = reader_at(last.number);
     Summing {
-        reader: reader,
-        figures: figures,
+        reader,
+        figures,
         before: last.number,
     }
-}
-
-// Room for the numbers of 4,096 lines, for `feed`.
-pub fn no_numbers() -> [u32; 24576]
-    ensures { 24576 ≡ length result }
-{
-    [0; 24576]
 }
 
 // The figures of lines that stand as numbers.
@@ -104,15 +88,12 @@ fn count_lines(numbers: &[u32], count: usize, r: Reader, piece: &[u8]) -> [u64; 
     requires { (count ≤ 1000000000) × (count * 6 ≤ length numbers.now) }
     ensures { result ≡ sheet_of 0 (trials_in count r.state.board.now numbers.now (source_of r piece.now)) }
 {
-    let state = r.state;
-    let board = state.board;
+    let now = r.state.board.now;
     if r.size == 0 {
-        return figures::count_rows(board.now, numbers, count, piece);
+        return figures::count_rows(now, numbers, count, piece);
     }
     let joined = reader::window(r, piece);
-    let bytes = joined.bytes;
-    let size = joined.size;
-    figures::count_rows(board.now, numbers, count, &bytes[0..size])
+    figures::count_rows(now, numbers, count, &joined.bytes[..joined.size])
 }
 
 // A PIECE of the file at hand; the lent numbers are room for its lines, six a line.
@@ -121,18 +102,16 @@ pub fn feed(s: Summing, piece: &[u8], numbers: &mut [u32]) -> Summed
     ensures numbers_after { numbers.new ≡ fed_buffer s.reader piece.now numbers.old }
     ensures taken_in_bounds { result.taken ≤ length piece.now }
 {
-    let reader = s.reader;
-    let so_far = s.figures;
-    let fed = reader::feed(reader, piece, numbers);
-    let more = count_lines(numbers, fed.count, reader, piece);
-    let sums = sheets::add(&so_far, &more);
+    let fed = reader::feed(s.reader, piece, numbers);
+    let more = count_lines(numbers, fed.count, s.reader, piece);
+    let sums = sheets::add(&s.figures, &more);
     let figures = sums.figures;
-    let next = fed.reader;
+    let reader = fed.reader;
     Summed {
         summing: Summing {
-            reader: next,
-            figures: figures,
-            before: s.before,
+            reader,
+            figures,
+            ..s
         },
         taken: fed.taken,
     }
@@ -143,51 +122,34 @@ pub fn put_progress(s: Summing, out: &mut [u8; 128]) -> usize
     ensures put { Put out.old 0 (progress_text (get_or s.figures 82 0) s.reader.number) out.new result }
     ensures upper_bound { result ≤ length out.new }
 {
-    let reader = s.reader;
-    let figures = s.figures;
-    stops::put_progress(out, figures[82], reader.number)
+    stops::put_progress(out, s.figures[82], s.reader.number)
 }
 
 // Whether more of the file can give an event.
 pub fn goes_on(s: Summing) -> bool
     ensures { result ≡ open? s.reader.end }
 {
-    let reader = s.reader;
-    let end = reader.end;
-    reader::is_open(end)
+    reader::is_open(s.reader.end)
 }
 
 fn is_whole(end: Ending) -> bool
     ensures { result ≡ whole? end }
 {
-    match end {
-        Ending::NotYet => true,
-        Ending::AtEnd => true,
-        Ending::In15(_) => false,
-        Ending::In16(_) => false,
-        Ending::AtLast => false,
-        Ending::PastLast => false,
-    }
+    matches!(end, Ending::NotYet | Ending::AtEnd)
 }
 
 // THE FILE HAS ENDED: whether another may follow.
 pub fn ends_whole(s: Summing) -> bool
     ensures { result ≡ whole? (file_end s) }
 {
-    let reader = s.reader;
-    let end = reader::close(reader);
-    is_whole(end)
+    is_whole(reader::close(s.reader))
 }
 
 // How many events the file at hand has had.
 fn events_in(s: Summing) -> u32
     ensures { result ≡ s.reader.number - s.before }
 {
-    let reader = s.reader;
-    if reader.number < s.before {
-        return 0;
-    }
-    reader.number - s.before
+    s.reader.number.saturating_sub(s.before)
 }
 
 // THE SUMMARY STOPS, in the file of that name: what is to be written.
@@ -197,17 +159,11 @@ pub fn close(s: Summing, name: Name, out: &mut [u8; 8192], err: &mut [u8; 8192])
     ensures err_after { err.new ≡ over_front (sum_said s (name_of name)) err.old }
     ensures used_in_bounds { (result.used ≤ length out.new) × (result.said ≤ length err.new) }
 {
-    let reader = s.reader;
-    let figures = s.figures;
-    let bytes = name.bytes;
-    let size = batches::size_of(name);
-    let end = reader::close(reader);
+    let named = &name.bytes[..batches::size_of(name)];
+    let end = reader::close(s.reader);
     let events = events_in(s);
-    let at = sheets::put_sheet(out, &figures);
-    let used = stops::put_words(out, at, &bytes[0..size], events, end);
-    let said = stops::put_said(err, &bytes[0..size], events, end);
-    Closed {
-        used: used,
-        said: said,
-    }
+    let at = sheets::put_sheet(out, &s.figures);
+    let used = stops::put_words(out, at, named, events, end);
+    let said = stops::put_said(err, named, events, end);
+    Closed { used, said }
 }

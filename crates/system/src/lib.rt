@@ -2,7 +2,7 @@
 // lines and the C library's are what is trusted (docs/PROMISES.md, What is trusted).
 #![tactic(auto)]
 
-ghost use Rattle.std.specs.Prelude.{◌≡◌, ◌+◌, ◌≤◌, ◌<◌, length, IfOk, IfErr};
+ghost use Rattle.std.specs.Prelude.{◌≡◌, ◌+◌, ◌≤◌, length, IfSome, IfOk, IfErr};
 ghost use Rattle.std.specs.IoError.{error_kind};
 
 use arguments::Asked;
@@ -16,72 +16,55 @@ use std::process::ExitCode;
 use std::time::{CpuClock, Duration};
 use std::{fs, io, str};
 
-// Zeros, which hold an argument or any path.
-pub fn page() -> [u8; 4096]
-    ensures { 4096 ≡ length result }
+// A walk over the arguments, the program's own name not among them: one that is longer than a page is refused.
+fn walk<T: Drop, F: FnMut(T, usize, &[u8]) -> T, G: Fn(T) -> T>(
+    rt: &impl Env,
+    first: T,
+    mut take: F,
+    refuse: G,
+) -> T
+    requires takes { F.IsAlwaysCallable take }
+    requires refuses { G.IsAlwaysCallable refuse }
 {
-    [0; 4096]
-}
-
-// Zeros, which hold a piece of the input or what comes of it.
-pub fn large_page() -> [u8; 65536]
-    ensures { 65536 ≡ length result }
-{
-    [0; 65536]
-}
-
-// One argument more.
-fn argued(rt: &impl Env, order: Order, wordy: bool, i: usize) -> Order {
-    let mut argument = page();
-    match rt.arg(i, &mut argument) {
-        Ok(n) => orders::take(order, wordy, i, &argument[..n]),
-        Err(_) => orders::refuse(order),
-    }
-}
-
-// What the arguments tell, the program's own name not among them.
-pub fn ordered(rt: &impl Env, wordy: bool) -> Order {
-    let mut order = orders::no_order();
+    let mut told = first;
     for i in 1..arguments(rt) {
-        order = argued(rt, order, wordy, i);
+        let mut argument = [0; 4096];
+        told = match rt.arg(i, &mut argument) {
+            Ok(n) => take(told, i, &argument[..n]),
+            Err(_) => refuse(told),
+        };
     }
-    order
+    told
 }
 
-// One argument of `ask` more.
-fn asked_more(rt: &impl Env, a: Asked, i: usize, text: &mut [u8]) -> Asked {
-    let mut argument = page();
-    match rt.arg(i, &mut argument) {
-        Ok(n) => arguments::take(a, i, &argument[..n], text),
-        Err(_) => arguments::refuse(a),
-    }
+// What the arguments tell.
+pub fn ordered(rt: &impl Env, wordy: bool) -> Order {
+    walk(
+        rt,
+        orders::no_order(),
+        |order, i, argument| orders::take(order, wordy, i, argument),
+        orders::refuse,
+    )
 }
 
 // What the arguments of `ask` tell; the words of its question stand in the lent text.
 pub fn asked(rt: &impl Env, text: &mut [u8]) -> Asked {
-    let mut a = arguments::no_asked();
-    for i in 1..arguments(rt) {
-        a = asked_more(rt, a, i, text);
-    }
-    a
-}
-
-// One argument of `summary` more.
-fn batched_more(rt: &impl Env, b: Batch, i: usize) -> Batch {
-    let mut argument = page();
-    match rt.arg(i, &mut argument) {
-        Ok(n) => batches::take(b, &argument[..n]),
-        Err(_) => batches::refuse(b),
-    }
+    walk(
+        rt,
+        arguments::no_asked(),
+        |a, i, argument| arguments::take(a, i, argument, text),
+        arguments::refuse,
+    )
 }
 
 // What the arguments of `summary` tell.
 pub fn batched(rt: &impl Env) -> Batch {
-    let mut b = batches::no_batch();
-    for i in 1..arguments(rt) {
-        b = batched_more(rt, b, i);
-    }
-    b
+    walk(
+        rt,
+        batches::no_batch(),
+        |b, _, argument| batches::take(b, argument),
+        batches::refuse,
+    )
 }
 
 // Whether there is such an argument: one that is longer than a page is one.
@@ -99,11 +82,6 @@ pub fn arguments(rt: &impl Env) -> usize {
     usize::MAX
 }
 
-// The argument after one.
-pub fn after(file: usize) -> usize {
-    if file < usize::MAX { file + 1 } else { file }
-}
-
 // Puts an argument at the front of a page; how many bytes it has, 0 where it is not there or there is no room for it.
 fn put_argument(rt: &impl Env, i: usize, bytes: &mut [u8]) -> usize
     ensures { result ≤ length bytes.new }
@@ -115,7 +93,7 @@ fn put_argument(rt: &impl Env, i: usize, bytes: &mut [u8]) -> usize
 pub fn name_of(rt: &impl Env, file: usize) -> Name
     ensures { (result.size ≤ 4096) × (length result.bytes ≡ 4096) }
 {
-    let mut bytes = page();
+    let mut bytes = [0; 4096];
     if file == 0 {
         bytes[0] = b'-';
         return Name { bytes, size: 1 };
@@ -125,16 +103,15 @@ pub fn name_of(rt: &impl Env, file: usize) -> Name
     Name { bytes, size }
 }
 
-// Where the input comes from: nowhere where it could not be opened.
+// Where the input comes from.
 #[derive(Drop)]
 pub enum Source {
-    Nowhere,
     Standard,
     Opened(File),
 }
 
 // Where a piece of the input stands: from `from` to `to` it is still to be taken. `more`: the input has not ended. `failed`: it
-// could not be opened, or not be read to its end.
+// could not be read to its end.
 #[derive(Drop)]
 pub struct Input {
     pub source: Source,
@@ -147,13 +124,12 @@ pub struct Input {
 fn input_of(source: Source) -> Input
     ensures { (result.from ≡ 0) × (result.to ≡ 0) }
 {
-    let more = !matches!(&source, Source::Nowhere);
     Input {
         source,
         from: 0,
         to: 0,
-        more,
-        failed: !more,
+        more: true,
+        failed: false,
     }
 }
 
@@ -164,12 +140,9 @@ const NUMBER: &[u8] = b" (os error ";
 fn reason_size(text: &[u8]) -> usize
     ensures { result ≤ length text.now }
 {
-    for i in 0..text.len() {
-        if text[i..].starts_with(NUMBER) {
-            return i;
-        }
-    }
-    text.len()
+    text.windows(NUMBER.len())
+        .position(|part| part == NUMBER)
+        .unwrap_or(text.len())
 }
 
 // The reason of an error at the front of a page; how many bytes it takes.
@@ -198,9 +171,6 @@ fn fail(rt: &HostRuntime, program: &[u8], what: &[u8], e: Error) {
 // What the system answers where a name is not text: std opens no other.
 const NO_TEXT: i32 = 84;
 
-// What it answers where there is nothing to read from.
-const NO_SOURCE: i32 = 9;
-
 fn open_named(rt: &HostRuntime, path: &[u8]) -> io::Result<File> {
     match str::from_utf8(path) {
         Ok(name) => fs::open(rt, name),
@@ -209,19 +179,19 @@ fn open_named(rt: &HostRuntime, path: &[u8]) -> io::Result<File> {
 }
 
 // The file that an argument names, standard input where it is 0. Where it cannot be opened, standard error says why.
-pub fn open(rt: &HostRuntime, program: &[u8], file: usize) -> Input
-    ensures { (result.from ≡ 0) × (result.to ≡ 0) }
+pub fn open(rt: &HostRuntime, program: &[u8], file: usize) -> Option<Input>
+    ensures { IfSome result (λ input. (input.from ≡ 0) × (input.to ≡ 0)) }
 {
     if file == 0 {
-        return input_of(Source::Standard);
+        return Some(input_of(Source::Standard));
     }
-    let mut path = page();
+    let mut path = [0; 4096];
     let n = put_argument(rt, file, &mut path);
     match open_named(rt, &path[..n]) {
-        Ok(opened) => input_of(Source::Opened(opened)),
+        Ok(opened) => Some(input_of(Source::Opened(opened))),
         Err(e) => {
             fail(rt, program, &path[..n], e);
-            input_of(Source::Nowhere)
+            None
         }
     }
 }
@@ -230,7 +200,6 @@ fn read_piece(rt: &HostRuntime, source: &mut Source, piece: &mut [u8]) -> io::Re
     ensures { IfOk result (λ n. n ≤ length piece.new) }
 {
     match source {
-        Source::Nowhere => Err(Error::from_raw_os_error(NO_SOURCE)),
         Source::Standard => rt.stdin().read(piece),
         Source::Opened(file) => file.read(piece),
     }
@@ -331,21 +300,12 @@ pub fn status(ended: io::Result<()>) -> ExitCode {
     }
 }
 
-// A loop has to end, and nothing says that the input does: the turns that are left, 0 where there is no more.
-pub fn turns_left(more: bool, turns: u64) -> u64
-    requires { 0 < turns }
-    ensures { result < turns }
-{
-    if more { turns - 1 } else { 0 }
-}
-
 // Where `./run` hands on the terminal of its standard error, whose place it takes to see whether anything is written there.
 const HANDED: &str = "/dev/fd/9";
 
 // A terminal that may be told how far a program is.
 #[derive(Drop)]
 pub enum Terminal {
-    Absent,
     Standard,
     Handed(File),
 }
@@ -353,10 +313,9 @@ pub enum Terminal {
 // When the terminal was last told how far it is: by the quarter of a second of the processor's time. Only a terminal is told.
 #[derive(Drop)]
 pub struct Pace {
-    pub shows: bool,
     pub due: bool,
     pub quarter: u64,
-    pub terminal: Terminal,
+    pub terminal: Option<Terminal>,
 }
 
 // The file under the number 9, where that is a terminal. Nothing else is opened.
@@ -372,23 +331,18 @@ fn handed(rt: &HostRuntime) -> io::Result<Option<File>> {
     }
 }
 
-fn told_terminal(rt: &HostRuntime) -> Terminal {
+fn told_terminal(rt: &HostRuntime) -> Option<Terminal> {
     if rt.stderr().is_terminal() {
-        return Terminal::Standard;
+        return Some(Terminal::Standard);
     }
-    match handed(rt) {
-        Ok(Some(file)) => Terminal::Handed(file),
-        _ => Terminal::Absent,
-    }
+    handed(rt).ok()?.map(Terminal::Handed)
 }
 
 pub fn first_pace(rt: &HostRuntime) -> Pace {
-    let terminal = told_terminal(rt);
     Pace {
-        shows: !matches!(&terminal, Terminal::Absent),
         due: false,
         quarter: 0,
-        terminal,
+        terminal: told_terminal(rt),
     }
 }
 
@@ -402,19 +356,20 @@ fn quarters(time: Duration) -> u64 {
 }
 
 // Whether a quarter of a second has passed: 2^18 microseconds.
-pub fn tick(rt: &impl CpuClock, p: Pace) -> Pace {
-    if !p.shows {
-        return p;
+pub fn tick(rt: &impl CpuClock, pace: &mut Pace) {
+    if pace.terminal.is_none() {
+        return;
     }
     let quarter = match rt.process_cpu_time() {
         Ok(time) => quarters(time),
-        Err(_) => p.quarter,
+        Err(_) => pace.quarter,
     };
-    let due = quarter != p.quarter;
-    Pace { due, quarter, ..p }
+    pace.due = quarter != pace.quarter;
+    pace.quarter = quarter;
 }
 
 // What `summary` says before a message about a file: `summary: FILE: `.
+// Stays: a name of any length in fixed memory, so a buffer with its length beside.
 #[derive(Clone, Copy)]
 pub struct Label {
     pub bytes: [u8; 8192],
@@ -425,29 +380,16 @@ pub fn label_of(program: &[u8], name: Name) -> Label
     requires { (length program.now ≤ 16) × (name.size ≤ 4096) }
     ensures { result.size ≤ 8192 }
 {
-    let mut label = no_page();
-    let bytes = name.bytes;
-    let size = name.size;
-    let name_at = text::put_bytes(&mut label, 0, program);
-    let after = text::put_bytes(&mut label, name_at, &bytes[0..size]);
-    let end = text::put_bytes(&mut label, after, b": ");
-    Label {
-        bytes: label,
-        size: end,
-    }
-}
-
-// Room for a summary, or for what is said of a file.
-pub fn no_page() -> [u8; 8192]
-    ensures { 8192 ≡ length result }
-{
-    [0; 8192]
+    let mut bytes = [0; 8192];
+    let name_at = text::put_bytes(&mut bytes, 0, program);
+    let after = text::put_bytes(&mut bytes, name_at, &name.bytes[..name.size]);
+    let size = text::put_bytes(&mut bytes, after, b": ");
+    Label { bytes, size }
 }
 
 // Writes to the terminal that is told; where that fails, it is told nothing.
 fn put(rt: &HostRuntime, terminal: &Terminal, bytes: &[u8]) {
     let _ = match terminal {
-        Terminal::Absent => Ok(()),
         Terminal::Standard => Print::write_all(&rt.stderr(), bytes),
         Terminal::Handed(file) => {
             let mut to = file;
@@ -456,9 +398,12 @@ fn put(rt: &HostRuntime, terminal: &Terminal, bytes: &[u8]) {
     };
 }
 
-// Tells the terminal how far it is, in place of what it was told before; what is written next begins in the same line.
+// Tells the terminal, where there is one, how far it is, in place of what it was told before; what is written next begins in the
+// same line.
 pub fn show(rt: &HostRuntime, pace: &Pace, text: &[u8]) {
-    put(rt, &pace.terminal, &[27, b'[', b'K']);
-    put(rt, &pace.terminal, text);
-    put(rt, &pace.terminal, &[13]);
+    if let Some(terminal) = &pace.terminal {
+        put(rt, terminal, &[27, b'[', b'K']);
+        put(rt, terminal, text);
+        put(rt, terminal, &[13]);
+    }
 }

@@ -2,11 +2,5 @@
 use Rattle.std.proofs.Common.{◌≤◌, length}
 use Rattle.ask.proofs.run.Given as goal
 
-abbrev pub invariant-loop-turns : goal.invariant-loop-turns
-invariant-loop-turns l = (l.input.from ≤ l.input.to) × (l.input.to ≤ length l.piece)
-
-abbrev pub decreases-loop-turns : goal.decreases-loop-turns
-decreases-loop-turns l = l.turns
-
-abbrev pub decreases-loop-turns-2 : goal.decreases-loop-turns-2
-decreases-loop-turns-2 l = l.turns
+abbrev pub invariant-loop : goal.invariant-loop
+invariant-loop l = (l.input.from ≤ l.input.to) × (l.input.to ≤ length l.piece)

@@ -9,5 +9,5 @@ pub returns : goal.returns
 unfolding next_file
 returns c =
     let s = c.args.s in
-    let sums = ap (λ (x : Sums). x.figures) c.add-sums.ensures ∙ ap (λ l. wrapped (plus s.figures l)) c.one_file-one.ensures in
+    let sums = ap (λ (x : Sums). x.figures) c.add-sums.ensures ∙ ap (λ l. wrapped (plus s.figures l)) c.one_file.ensures in
     λ i. record { reader = c.reader_at-reader.ensures i; figures = sums i; before = s.reader.number }

@@ -6,4 +6,4 @@ use Rattle.summing.proofs.ends_whole.Goals as goal
 
 pub returns : goal.returns
 unfolding file_end
-returns c = c.is_whole.ensures ∙ ap whole? c.close-end.ensures
+returns c = c.is_whole.ensures ∙ ap whole? c.close.ensures
