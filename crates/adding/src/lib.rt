@@ -340,15 +340,6 @@ pub fn close(a: Adding, out: &mut [u8; 8192]) -> usize
     put_whole(out, &a.total)
 }
 
-// A text from a place of a buffer on; the place after it.
-fn put(out: &mut [u8], at: usize, bytes: &[u8]) -> usize
-    requires { at + length bytes.now ≤ length out.old }
-    ensures put { Put out.old at bytes.now out.new result }
-    ensures value { result ≡ at + length bytes.now }
-{
-    text::put_bytes(out, at, bytes)
-}
-
 // Why it was refused, at the front of the buffer; how many bytes that takes. The caller puts its own name and that of the text before.
 pub fn put_refusal(a: Adding, out: &mut [u8; 128]) -> usize
     ensures put { Put out.old 0 (refusal_text a.at) out.new result }
@@ -356,13 +347,13 @@ pub fn put_refusal(a: Adding, out: &mut [u8; 128]) -> usize
 {
     let at = a.at;
     if matches!(at.fault, Some(Fault::Sum)) {
-        let line_at = put(out, 0, b"the summary at line ");
-        let after = text::put_wide(out, line_at, at.line);
-        return put(out, after, b" makes a sum of more than 64 bits\n");
+        let line_at = text::put_bytes(out, 0, b"the summary at line ");
+        let after = text::put_number::<20>(out, line_at, at.line);
+        return text::put_bytes(out, after, b" makes a sum of more than 64 bits\n");
     }
-    let line_at = put(out, 0, b"line ");
-    let after = text::put_wide(out, line_at, at.line);
-    put(
+    let line_at = text::put_bytes(out, 0, b"line ");
+    let after = text::put_number::<20>(out, line_at, at.line);
+    text::put_bytes(
         out,
         after,
         b" is not what a summary that ends in 'stop end' has there\n",

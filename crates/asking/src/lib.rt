@@ -144,9 +144,8 @@ fn answer_busy(board: Board, instant: u32, out: &mut [u8; 65536]) -> usize
     ensures out_after { out.new ≡ over_front (answered (Some (Busy instant)) board) out.old }
 {
     let r = board.busy(instant);
-    let words = [r.count];
     let mut row = [0u8; 16];
-    let n = text::put_words(&mut row, 0, &words, 0, 1);
+    let n = text::put_words(&mut row, 0, &[r.count]);
     reply(out, r.number, &row[0..n])
 }
 

@@ -33,87 +33,56 @@ pub struct Fed {
     pub said: usize,
 }
 
-// A text from a place of a buffer on; the place after it.
-fn put(out: &mut [u8], at: usize, bytes: &[u8]) -> usize
-    requires { at + length bytes.now ≤ length out.old }
-    ensures put { Put out.old at bytes.now out.new result }
-    ensures value { result ≡ at + length bytes.now }
-{
-    text::put_bytes(out, at, bytes)
-}
-
 // What a line of each kind has at a word.
-fn put_board_wants(err: &mut [u8], at: usize, word: usize) -> usize
-    requires { at + 100 ≤ length err.old }
-    ensures put { Put err.old at (board_wants word) err.new result }
-    ensures upper_bound { result ≤ at + 100 }
+#[tactic(auto, unfolding(crate::specs::Recorder::board_wants))]
+fn board_wants(word: usize) -> &'static [u8]
+    ensures wants { result.now ≡ board_wants word }
+    ensures upper_bound { length result.now ≤ 70 }
 {
-    if word == 2 {
-        return put(err, at, b"W, a number from 0 to 65535 (board W H [G])");
+    match word {
+        2 => b"W, a number from 0 to 65535 (board W H [G])",
+        3 => b"H, a number from 0 to 65535 (board W H [G])",
+        4 => b"G, a number from 0 to 255, or the end of the line (board W H [G])",
+        _ => b"the end of the line (board W H [G])",
     }
-    if word == 3 {
-        return put(err, at, b"H, a number from 0 to 65535 (board W H [G])");
-    }
-    if word == 4 {
-        return put(
-            err,
-            at,
-            b"G, a number from 0 to 255, or the end of the line (board W H [G])",
-        );
-    }
-    put(err, at, b"the end of the line (board W H [G])")
 }
 
-fn put_submit_wants(err: &mut [u8], at: usize, word: usize) -> usize
-    requires { at + 70 ≤ length err.old }
-    ensures put { Put err.old at (submit_wants word) err.new result }
-    ensures upper_bound { result ≤ at + 70 }
+#[tactic(auto, unfolding(crate::specs::Recorder::submit_wants))]
+fn submit_wants(word: usize) -> &'static [u8]
+    ensures wants { result.now ≡ submit_wants word }
+    ensures upper_bound { length result.now ≤ 70 }
 {
-    if word == 2 {
-        return put(
-            err,
-            at,
-            b"PLANNER, reference, horizon, stuffing, full or a number from 0 to 255",
-        );
+    match word {
+        2 => b"PLANNER, reference, horizon, stuffing, full or a number from 0 to 255",
+        3 => b"ID, a number from 0 to 4294967295",
+        4 => b"W, a number from 0 to 65535",
+        5 => b"H, a number from 0 to 65535",
+        6 => b"E, a number from 0 to 4294967295",
+        7 => b"D, a number from 0 to 4294967295",
+        _ => b"the end of the line",
     }
-    if word == 3 {
-        return put(err, at, b"ID, a number from 0 to 4294967295");
-    }
-    if word == 4 {
-        return put(err, at, b"W, a number from 0 to 65535");
-    }
-    if word == 5 {
-        return put(err, at, b"H, a number from 0 to 65535");
-    }
-    if word == 6 {
-        return put(err, at, b"E, a number from 0 to 4294967295");
-    }
-    if word == 7 {
-        return put(err, at, b"D, a number from 0 to 4294967295");
-    }
-    put(err, at, b"the end of the line")
 }
 
-fn put_clock_wants(err: &mut [u8], at: usize, word: usize) -> usize
-    requires { at + 100 ≤ length err.old }
-    ensures put { Put err.old at (clock_wants word) err.new result }
-    ensures upper_bound { result ≤ at + 100 }
+#[tactic(auto, unfolding(crate::specs::Recorder::clock_wants))]
+fn clock_wants(word: usize) -> &'static [u8]
+    ensures wants { result.now ≡ clock_wants word }
+    ensures upper_bound { length result.now ≤ 70 }
 {
-    if word == 2 {
-        return put(err, at, b"T, a number from 0 to 4294967295 (clock T)");
+    match word {
+        2 => b"T, a number from 0 to 4294967295 (clock T)",
+        _ => b"the end of the line (clock T)",
     }
-    put(err, at, b"the end of the line (clock T)")
 }
 
-fn put_withdraw_wants(err: &mut [u8], at: usize, word: usize) -> usize
-    requires { at + 100 ≤ length err.old }
-    ensures put { Put err.old at (withdraw_wants word) err.new result }
-    ensures upper_bound { result ≤ at + 100 }
+#[tactic(auto, unfolding(crate::specs::Recorder::withdraw_wants))]
+fn withdraw_wants(word: usize) -> &'static [u8]
+    ensures wants { result.now ≡ withdraw_wants word }
+    ensures upper_bound { length result.now ≤ 70 }
 {
-    if word == 2 {
-        return put(err, at, b"ID, a number from 0 to 4294967295 (withdraw ID)");
+    match word {
+        2 => b"ID, a number from 0 to 4294967295 (withdraw ID)",
+        _ => b"the end of the line (withdraw ID)",
     }
-    put(err, at, b"the end of the line (withdraw ID)")
 }
 
 fn put_expected(err: &mut [u8], at: usize, kind: Kind, word: usize) -> usize
@@ -122,14 +91,14 @@ fn put_expected(err: &mut [u8], at: usize, kind: Kind, word: usize) -> usize
     ensures upper_bound { result ≤ at + 100 }
 {
     match kind {
-        Kind::Unnamed => put(err, at, b"board, submit, clock or withdraw"),
-        Kind::Board => put_board_wants(err, at, word),
+        Kind::Unnamed => text::put_bytes(err, at, b"board, submit, clock or withdraw"),
+        Kind::Board => text::put_bytes(err, at, board_wants(word)),
         Kind::Submit => {
-            let next = put_submit_wants(err, at, word);
-            put(err, next, b" (submit PLANNER ID W H E D)")
+            let next = text::put_bytes(err, at, submit_wants(word));
+            text::put_bytes(err, next, b" (submit PLANNER ID W H E D)")
         }
-        Kind::Clock => put_clock_wants(err, at, word),
-        Kind::Withdraw => put_withdraw_wants(err, at, word),
+        Kind::Clock => text::put_bytes(err, at, clock_wants(word)),
+        Kind::Withdraw => text::put_bytes(err, at, withdraw_wants(word)),
     }
 }
 
@@ -159,15 +128,15 @@ fn put_quoted(err: &mut [u8], at: usize, word: &[u8]) -> usize
     ensures upper_bound { result ≤ at + 44 }
 {
     if tokens::is_empty(word) {
-        return put(err, at, b"the line ends");
+        return text::put_bytes(err, at, b"the line ends");
     }
-    let first = put(err, at, b"'");
+    let first = text::put_bytes(err, at, b"'");
     if 40 < word.len() {
         let cut = put_shown(err, first, &word[0..40]);
-        return put(err, cut, b"..'");
+        return text::put_bytes(err, cut, b"..'");
     }
     let end = put_shown(err, first, word);
-    put(err, end, b"'")
+    text::put_bytes(err, end, b"'")
 }
 
 // How many records were written: the end of a message.
@@ -176,9 +145,9 @@ fn put_count(err: &mut [u8], at: usize, records: u64) -> usize
     ensures put { Put err.old at (count_text records) err.new result }
     ensures upper_bound { result ≤ at + 40 }
 {
-    let number = put(err, at, b"; records written: ");
-    let end = text::put_wide(err, number, records);
-    put(err, end, b"\n")
+    let number = text::put_bytes(err, at, b"; records written: ");
+    let end = text::put_number::<20>(err, number, records);
+    text::put_bytes(err, end, b"\n")
 }
 
 // The message of a wrong line, at the front of the buffer; how many bytes it takes.
@@ -193,13 +162,13 @@ fn put_wrong(
     ensures value { result ≡ length (wrong_text line records kind word bytes.now) }
     ensures err_after { err.new ≡ over_front (wrong_text line records kind word bytes.now) err.old }
 {
-    let line_at = put(err, 0, b"record: line ");
-    let line_end = text::put_wide(err, line_at, line);
-    let word_at = put(err, line_end, b", word ");
-    let word_end = text::put_wide(err, word_at, word as u64);
-    let quote_at = put(err, word_end, b": ");
+    let line_at = text::put_bytes(err, 0, b"record: line ");
+    let line_end = text::put_number::<20>(err, line_at, line);
+    let word_at = text::put_bytes(err, line_end, b", word ");
+    let word_end = text::put_number::<20>(err, word_at, word as u64);
+    let quote_at = text::put_bytes(err, word_end, b": ");
     let quote_end = put_quoted(err, quote_at, bytes);
-    let wants_at = put(err, quote_end, b": expected ");
+    let wants_at = text::put_bytes(err, quote_end, b": expected ");
     let wants_end = put_expected(err, wants_at, kind, word);
     put_count(err, wants_end, records)
 }
@@ -209,9 +178,9 @@ fn put_too_long(err: &mut [u8; 512], line: u64, records: u64) -> usize
     ensures value { result ≡ length (long_text line records) }
     ensures err_after { err.new ≡ over_front (long_text line records) err.old }
 {
-    let line_at = put(err, 0, b"record: line ");
-    let line_end = text::put_wide(err, line_at, line);
-    let end = put(
+    let line_at = text::put_bytes(err, 0, b"record: line ");
+    let line_end = text::put_number::<20>(err, line_at, line);
+    let end = text::put_bytes(
         err,
         line_end,
         b": expected fewer than 65536 bytes in a line",
@@ -466,7 +435,7 @@ pub fn close(
         return Fed {
             recorder: stopped,
             taken: 0,
-            used: put(out, 0, b"\0"),
+            used: text::put_bytes(out, 0, b"\0"),
             said: 0,
         };
     }

@@ -9,10 +9,10 @@ pub returns-then-matches-clause-put : goal.returns-then-matches-clause-put
 unfolding refusal_text
 returns-then-matches-clause-put c =
     let past : past? c.args.a.at.fault ≡ c.match-matches.matches = search rules in
-    rw (past ∙ c.if-matches.true) (put_both c.put-line_at.ensures.put (put_both c.put_wide-after.ensures.put c.put.ensures.put))
+    rw (past ∙ c.if-matches.true) (put_both c.put_bytes-line_at.ensures.put (put_both c.put_number-after.ensures.put c.put_bytes.ensures.put))
 
 pub returns-clause-put : goal.returns-clause-put
 unfolding refusal_text
 returns-clause-put c =
     let past : past? c.args.a.at.fault ≡ c.match-matches.matches = search rules in
-    rw (past ∙ c.if-matches.false) (put_both c.put-line_at-2.ensures.put (put_both c.put_wide-after-2.ensures.put c.put-2.ensures.put))
+    rw (past ∙ c.if-matches.false) (put_both c.put_bytes-line_at-2.ensures.put (put_both c.put_number-after-2.ensures.put c.put_bytes-2.ensures.put))

@@ -8,8 +8,7 @@ use Rattle.adding.proofs.put_whole.Goals as goal
 pub returns : goal.returns
 unfolding whole_text
 returns c =
-    let e = c.put_bytes.ensures in
-    let all = put_both c.put_sheet-end.ensures.put (record { stored = e.out_after; place = e.value }) in
+    let all = put_both c.put_sheet-end.ensures.put c.put_bytes.ensures.put in
     record {
       put = all;
       upper_bound = (omega arith, put-length all);

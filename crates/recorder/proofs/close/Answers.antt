@@ -13,7 +13,7 @@ returns-then-whole c =
 pub returns-then-recorder : goal.returns-then-recorder
 returns-then-recorder c =
     let a = c.args in
-    let all = cut a.recorder a.held.now a.out.now a.err.now c.if-recorder.true c.if-whole.false (omega arith) c.put.ensures.put in
+    let all = cut a.recorder a.held.now a.out.now a.err.now c.if-recorder.true c.if-whole.false (omega arith) c.put_bytes.ensures.put in
     record { value = all.0; out_after = all.1.0; err_after = all.1.1.0; used_in_bounds = all.1.1.1 }
 
 pub returns : goal.returns

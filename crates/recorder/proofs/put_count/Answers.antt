@@ -7,9 +7,9 @@ use Rattle.recorder.proofs.put_count.Goals as goal
 pub returns : goal.returns
 unfolding count_text
 returns c =
-    let first = c.put-number.ensures in
-    let last = c.put.ensures in
+    let first = c.put_bytes-number.ensures in
+    let last = c.put_bytes.ensures in
     record {
-      put = put_both first.put (put_both c.put_wide-end.ensures.put last.put);
-      upper_bound = omega (arith, first.value, c.put_wide-end.ensures.upper_bound, last.value);
+      put = put_both first.put (put_both c.put_number-end.ensures.put last.put);
+      upper_bound = omega (arith, first.value, c.put_number-end.ensures.upper_bound, last.value);
     }

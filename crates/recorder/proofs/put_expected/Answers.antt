@@ -1,43 +1,25 @@
 -- `recorder::put_expected` meets its contract: a text for each kind of line. Assumes nothing.
-use native.Mathlib.Omega.{arith}
 use Rattle.text.proofs.Spelling.{put_both}
 use Rattle.recorder.specs.Recorder.{expected}
 use Rattle.recorder.proofs.put_expected.Goals as goal
 
-pub returns-in-Unnamed : goal.returns-in-Unnamed
+pub returns-in-Unnamed-clause-put : goal.returns-in-Unnamed-clause-put
 unfolding expected
-returns-in-Unnamed c = let p = c.put.ensures in record {
-  put = rw c.in-Unnamed.is p.put;
-  upper_bound = omega (arith, p.value);
-}
+returns-in-Unnamed-clause-put c = rw c.in-Unnamed.is c.put_bytes.ensures.put
 
-pub returns-in-Board : goal.returns-in-Board
+pub returns-in-Board-clause-put : goal.returns-in-Board-clause-put
 unfolding expected
-returns-in-Board c = let p = c.put_board_wants.ensures in record {
-  put = rw c.in-Board.is p.put;
-  upper_bound = omega (arith, p.upper_bound);
-}
+returns-in-Board-clause-put c = rw (c.in-Board.is, ← c.board_wants.ensures.wants) c.put_bytes-in-Board.ensures.put
 
-pub returns-in-Submit : goal.returns-in-Submit
+pub returns-in-Submit-clause-put : goal.returns-in-Submit-clause-put
 unfolding expected
-returns-in-Submit c =
-    let s = c.put_submit_wants-next.ensures in
-    let p = c.put-in-Submit.ensures in
-    record {
-      put = rw c.in-Submit.is (put_both s.put p.put);
-      upper_bound = omega (arith, s.upper_bound, p.value);
-    }
+returns-in-Submit-clause-put c =
+    rw (c.in-Submit.is, ← c.submit_wants.ensures.wants) (put_both c.put_bytes-next.ensures.put c.put_bytes-in-Submit.ensures.put)
 
-pub returns-in-Clock : goal.returns-in-Clock
+pub returns-in-Clock-clause-put : goal.returns-in-Clock-clause-put
 unfolding expected
-returns-in-Clock c = let p = c.put_clock_wants.ensures in record {
-  put = rw c.in-Clock.is p.put;
-  upper_bound = omega (arith, p.upper_bound);
-}
+returns-in-Clock-clause-put c = rw (c.in-Clock.is, ← c.clock_wants.ensures.wants) c.put_bytes-in-Clock.ensures.put
 
-pub returns-in-Withdraw : goal.returns-in-Withdraw
+pub returns-in-Withdraw-clause-put : goal.returns-in-Withdraw-clause-put
 unfolding expected
-returns-in-Withdraw c = let p = c.put_withdraw_wants.ensures in record {
-  put = rw c.in-Withdraw.is p.put;
-  upper_bound = omega (arith, p.upper_bound);
-}
+returns-in-Withdraw-clause-put c = rw (c.in-Withdraw.is, ← c.withdraw_wants.ensures.wants) c.put_bytes-in-Withdraw.ensures.put

@@ -6,7 +6,7 @@ use Rattle.recorder.proofs.put_quoted.Goals as goal
 
 pub returns-then-is_empty : goal.returns-then-is_empty
 returns-then-is_empty c =
-    let p = c.put.ensures in
+    let p = c.put_bytes.ensures in
     record {
       put = quoted-none _ (sym c.is_empty.ensures ∙ c.if-is_empty.true) p.put;
       upper_bound = omega (arith, p.value);
@@ -14,19 +14,19 @@ returns-then-is_empty c =
 
 pub returns-then-word-gt40 : goal.returns-then-word-gt40
 returns-then-word-gt40 c =
-    let p = c.put-then-word-gt40.ensures in
+    let p = c.put_bytes-then-word-gt40.ensures in
     let s = c.put_shown-cut.ensures in
     record {
-      put = quoted-long _ (sym c.is_empty.ensures ∙ c.if-is_empty.false) c.if-word-gt40.true c.put-first.ensures.put s.put p.put;
-      upper_bound = omega (arith, c.put-first.ensures.value, s.value, p.value);
+      put = quoted-long _ (sym c.is_empty.ensures ∙ c.if-is_empty.false) c.if-word-gt40.true c.put_bytes-first.ensures.put s.put p.put;
+      upper_bound = omega (arith, c.put_bytes-first.ensures.value, s.value, p.value);
     }
 
 pub returns : goal.returns
 returns c =
-    let p = c.put-2.ensures in
+    let p = c.put_bytes-2.ensures in
     let s = c.put_shown-end.ensures in
     let h = c.if-word-gt40.false in
     record {
-      put = quoted-short _ (sym c.is_empty.ensures ∙ c.if-is_empty.false) (omega (arith, h)) c.put-first.ensures.put s.put p.put;
-      upper_bound = omega (arith, c.put-first.ensures.value, s.value, p.value, h);
+      put = quoted-short _ (sym c.is_empty.ensures ∙ c.if-is_empty.false) (omega (arith, h)) c.put_bytes-first.ensures.put s.put p.put;
+      upper_bound = omega (arith, c.put_bytes-first.ensures.value, s.value, p.value, h);
     }

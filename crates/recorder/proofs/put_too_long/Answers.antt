@@ -10,7 +10,7 @@ pub returns : goal.returns
 unfolding long_text
 returns c =
     let count = c.put_count.ensures in
-    let all = put_both c.put-line_at.ensures.put (put_both c.put_wide-line_end.ensures.put (put_both c.put-end.ensures.put count.put)) in
-    let most : c.put_count.result ≤ 200 = omega (arith, c.put-line_at.ensures.value, c.put_wide-line_end.ensures.upper_bound, c.put-end.ensures.value, count.upper_bound) in
+    let all = put_both c.put_bytes-line_at.ensures.put (put_both c.put_number-line_end.ensures.put (put_both c.put_bytes-end.ensures.put count.put)) in
+    let most : c.put_count.result ≤ 200 = omega (arith, c.put_bytes-line_at.ensures.value, c.put_number-line_end.ensures.upper_bound, c.put_bytes-end.ensures.value, count.upper_bound) in
     let all = at_front _ all (omega arith) in
     record { value = all.0; err_after = all.1 }
