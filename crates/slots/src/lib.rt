@@ -27,6 +27,7 @@ fn task_sound(on: Device, now: u32, k: Task) -> bool
 }
 
 // A live task that is sound, or a free slot of zeros.
+#[tactic(auto, unfolding(crate::specs::Slots::slot_sound))]
 pub fn slot_sound(on: Device, now: u32, k: Task) -> bool
     ensures { result ≡ slot_sound on now k }
 {
@@ -38,6 +39,7 @@ pub fn slot_sound(on: Device, now: u32, k: Task) -> bool
 }
 
 // A slot at an instant: a task that has finished leaves it free, another has the phase of the instant.
+#[tactic(auto, unfolding(crate::specs::Slots::aged_to))]
 fn aged(k: Task, instant: u32) -> Task
     ensures { result ≡ aged_to instant k }
 {
@@ -51,6 +53,7 @@ fn aged(k: Task, instant: u32) -> Task
 }
 
 // Every slot at an instant.
+#[tactic(auto, unfolding(crate::specs::Slots::all_aged_to))]
 pub fn all_aged(tasks: [Task; 64], instant: u32) -> [Task; 64]
     ensures { result ≡ all_aged_to instant tasks }
 {
@@ -61,6 +64,7 @@ pub fn all_aged(tasks: [Task; 64], instant: u32) -> [Task; 64]
     next
 }
 
+#[tactic(auto, unfolding(crate::specs::Slots::named))]
 fn is_named(k: Task, id: u32) -> bool
     ensures { result ≡ named id k }
 {

@@ -93,6 +93,7 @@ pub fn free_slot() -> Task
 
 // Every number of the record is 0.
 // Stays: `==` with a free slot would read the phase too, which `zeros` does not.
+#[tactic(auto, unfolding(crate::specs::Tasks::zeros))]
 pub fn is_zeros(k: Task) -> bool
     ensures { result ≡ zeros k }
 {
@@ -113,6 +114,7 @@ fn finish(start: u32, e: u32) -> u64
 }
 
 // The phase that the record has at an instant.
+#[tactic(auto, unfolding(crate::specs::Tasks::phase_at))]
 fn phase_at(k: Task, instant: u32) -> Phase
     ensures { result ≡ phase_at instant k }
 {
@@ -133,6 +135,7 @@ pub fn in_phase(k: Task, instant: u32) -> bool
 }
 
 // The record with the phase that it has at an instant.
+#[tactic(auto, unfolding(crate::specs::Tasks::stamped))]
 pub fn stamp(k: Task, instant: u32) -> Task
     ensures { result ≡ stamped instant k }
 {
@@ -212,6 +215,7 @@ pub fn time_fits(e: u32, d: u32) -> bool
 }
 
 // The record as submitted with the column and start answered, in the phase that it has at now.
+#[tactic(auto, unfolding(crate::specs::Tasks::booked))]
 pub fn booked(clock: u32, a: Submission, start: u32, column: u16) -> Task
     ensures { result ≡ booked clock a start column }
 {

@@ -11,6 +11,3 @@ returns-then-grid-eq1 c =
     let a = c.args in
     let z : a.grid ≡ 1 = omega arith in
     sym (ap (λ g. multiple g a.w && may_begin g a.column) z ∙ ap₂ (λ p q. p && q) (multiple-one a.w) (begin-one a.column))
-
-pub returns : goal.returns
-returns c = ap₂ (λ p q. p && q) c.is_multiple-width.ensures c.may_begin-begins.ensures
