@@ -3,9 +3,8 @@ use Prim.Native.Nat.{ℕ}
 use mathlib.Core.Path.{◌≡◌, refl, ap, ◌∙◌}
 use mathlib.Core.Bool.{true, false}
 use Rattle.std.proofs.Common.{Some, None, Ok, Err}
-use Rattle.lines.specs.Lines.{Line}
 use Rattle.recorder.specs.declared.Step.{Step}
-use Rattle.recorder.specs.Recorder.{made_of, line_made}
+use Rattle.recorder.specs.Recorder.{made_of}
 use Rattle.recorder.proofs.Recording.{made_by}
 use Rattle.recorder.proofs.put_line.Goals as goal
 
