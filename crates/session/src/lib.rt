@@ -63,10 +63,7 @@ pub fn put_line(
 pub fn room(words: usize, number: u32) -> usize
     ensures { result ≡ room_for words number }
 {
-    if MOST_EVENTS < number {
-        return 0;
-    }
-    (words / 6).min((MOST_EVENTS - number) as usize)
+    (words / 6).min(MOST_EVENTS.saturating_sub(number) as usize)
 }
 
 // The records brought up to the clock.
