@@ -16,33 +16,32 @@ use Rattle.tokens.specs.Tokens.{digit}
 use Rattle.sheets.specs.Sheets.{planner_names, class_names, row_line, row_in, header_text, foot_text, sheet_text}
 use Rattle.sheets.proofs.Laws.{fits-at}
 use Rattle.adding.specs.Adding.{whole_text, Good, no_figures}
-use Rattle.adding.specs.declared.Mode.{Mode}
-use Rattle.adding.specs.declared.Mode.TheVariants.{Between, Inside, Behind}
 use Rattle.adding.specs.declared.Reading.{Reading}
-use Rattle.adding.specs.Machine.{inside?, behind?, ends_number, read, figures_on, figures_in}
+use Rattle.adding.specs.declared.Reading.TheVariants.{Between, Inside, Behind}
+use Rattle.adding.specs.Machine.{inside?, value_of, behind?, ends_number, read, figures_on, figures_in}
 use Rattle.adding.proofs.Numbers.{both_l, both_r}
 
 -- between numbers, in a number, behind a slash
 abbrev idle : Reading
-idle = record { value = 0; mode = Between }
+idle = Between
 
 abbrev inside : ℕ → Reading
-inside v = record { value = v; mode = Inside }
+inside v = Inside v
 
 abbrev over : Reading
-over = record { value = 0; mode = Behind }
+over = Behind
 
 -- A DIGIT
 is_digit : {d : ℕ} → Digit d → digit d ≡ true
 is_digit {d} h = rw (le-leb 48 d h.least, le-leb d 57 h.most) refl
 
 module _ (figures : List ℕ) (n : ℕ) where
-  digit-on : (v : ℕ) (m : Mode) (d : ℕ) (bs : List ℕ) → Digit d → behind? m ≡ false → v * 10 + (d - 48) ≤ 18446744073709551615
-      → figures_on figures n (record { value = v; mode = m }) (d ∷ bs) ≡ figures_on figures n (inside (v * 10 + (d - 48))) bs
+  digit-on : (r : Reading) (d : ℕ) (bs : List ℕ) → Digit d → behind? r ≡ false → value_of r * 10 + (d - 48) ≤ 18446744073709551615
+      → figures_on figures n r (d ∷ bs) ≡ figures_on figures n (inside (value_of r * 10 + (d - 48))) bs
   unfolding figures_on read
-  digit-on v m d bs h k s =
-      let none : (ends_number m d && ltb n 83) ≡ false = rw (is_digit h) (go (inside? m)) in
-      rw (none, ne_eqb d 47 (λ e. omega (arith, h.least)), is_digit h, k, le-leb (v * 10 + (d - 48)) 18446744073709551615 s) refl
+  digit-on r d bs h k s =
+      let none : (ends_number r d && ltb n 83) ≡ false = rw (is_digit h) (go (inside? r)) in
+      rw (none, ne_eqb d 47 (λ e. omega (arith, h.least)), is_digit h, k, le-leb (value_of r * 10 + (d - 48)) 18446744073709551615 s) refl
     where
       go : (t : Bool) → (((t && false) && not (eqb d 47)) && ltb n 83) ≡ false
       go true = refl
@@ -64,7 +63,7 @@ module _ (figures : List ℕ) (n : ℕ) (bs : List ℕ) where
   unfolding value Digits
   digits_in v [] h s = refl
   digits_in v (d ∷ ds) h s =
-      digit-on figures n v Inside d (ds ++ bs) h.0 refl (let g : v * 10 + (d - 48) ≤ value (v * 10 + (d - 48)) ds = grows (v * 10 + (d - 48)) ds in omega arith)
+      digit-on figures n (inside v) d (ds ++ bs) h.0 refl (let g : v * 10 + (d - 48) ≤ value (v * 10 + (d - 48)) ds = grows (v * 10 + (d - 48)) ds in omega arith)
       ∙ digits_in (v * 10 + (d - 48)) ds h.1 s
 
   digits-over : (ds : List ℕ) → Digits ds → figures_on figures n over (ds ++ bs) ≡ figures_on figures n over bs
@@ -76,7 +75,7 @@ module _ (figures : List ℕ) (n : ℕ) (bs : List ℕ) where
   unfolding value Digits
   digits-first [] h l s = absurd (omega arith)
   digits-first (d ∷ ds) h l s =
-      digit-on figures n 0 Between d (ds ++ bs) h.0 refl (let g : 0 * 10 + (d - 48) ≤ value (0 * 10 + (d - 48)) ds = grows (0 * 10 + (d - 48)) ds in omega arith)
+      digit-on figures n idle d (ds ++ bs) h.0 refl (let g : 0 * 10 + (d - 48) ≤ value (0 * 10 + (d - 48)) ds = grows (0 * 10 + (d - 48)) ds in omega arith)
       ∙ digits_in (0 * 10 + (d - 48)) ds h.1 s
 
 some-digit : (x : ℕ) → 0 < length (decimal x)

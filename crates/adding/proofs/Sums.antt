@@ -11,9 +11,9 @@ use Rattle.tokens.specs.Tokens.{same}
 use Rattle.sheets.specs.Sheets.{plus, fits?}
 use Rattle.sheets.proofs.Laws.{length-plus, fits-part}
 use Rattle.adding.specs.Adding.{Good, AllGood, sum_of, no_figures}
-use Rattle.adding.specs.declared.Mode.TheVariants.{Between}
 use Rattle.adding.specs.declared.Reading.{Reading}
-use Rattle.adding.specs.Machine.{ends_number, read, figures_on, figures_in, adds_up, bad_row}
+use Rattle.adding.specs.declared.Reading.TheVariants.{Between}
+use Rattle.adding.specs.Machine.{ends_number, value_of, read, figures_on, figures_in, adds_up, bad_row}
 
 -- the same bytes are the same text
 pub same-is : (xs ys : List ℕ) → same xs ys ≡ true → xs ≡ ys
@@ -37,17 +37,17 @@ figures-on : (figures : List ℕ) (n : ℕ) (r : Reading) (text : List ℕ) → 
 unfolding figures_on
 figures-on figures n r [] = refl
 figures-on figures n r (b ∷ bs) =
-    go (ends_number r.mode b && ltb n 83) (figures-on (set figures n r.value) (n + 1) (read r b) bs) (figures-on figures n (read r b) bs)
+    go (ends_number r b && ltb n 83) (figures-on (set figures n (value_of r)) (n + 1) (read r b) bs) (figures-on figures n (read r b) bs)
   where
-    go : (t : Bool) → length (figures_on (set figures n r.value) (n + 1) (read r b) bs) ≡ length (set figures n r.value)
+    go : (t : Bool) → length (figures_on (set figures n (value_of r)) (n + 1) (read r b) bs) ≡ length (set figures n (value_of r))
         → length (figures_on figures n (read r b) bs) ≡ length figures
-        → length (cond t (figures_on (set figures n r.value) (n + 1) (read r b) bs) (figures_on figures n (read r b) bs)) ≡ length figures
-    go true h k = h ∙ length-set figures n r.value
+        → length (cond t (figures_on (set figures n (value_of r)) (n + 1) (read r b) bs) (figures_on figures n (read r b) bs)) ≡ length figures
+    go true h k = h ∙ length-set figures n (value_of r)
     go false h k = k
 
 pub figures-size : (text : List ℕ) → length (figures_in text) ≡ 83
 unfolding figures_in
-figures-size text = figures-on no_figures 0 (record { value = 0; mode = Between }) text
+figures-size text = figures-on no_figures 0 Between text
 
 -- ROWS THAT ADD UP
 module _ (ns : List ℕ) where

@@ -6,26 +6,30 @@ use Rattle.sheets.specs.Sheets.{plus, fits?}
 use Rattle.adding.specs.Adding.{whole_text, no_figures}
 use Rattle.adding.specs.declared.Fault.{Fault}
 use Rattle.adding.specs.declared.Fault.TheVariants.{Line, Sum}
-use Rattle.adding.specs.declared.Mode.{Mode}
-use Rattle.adding.specs.declared.Mode.TheVariants.{Between, Inside, Behind}
 use Rattle.adding.specs.declared.Reading.{Reading}
+use Rattle.adding.specs.declared.Reading.TheVariants.{Between, Inside, Behind}
 use Rattle.adding.specs.declared.Standing.{Standing}
 use Rattle.adding.specs.declared.Adding.{Adding}
 
--- a number has begun; a slash stands before
-abbrev pub inside? : Mode → Bool
+-- a number has begun; what it is as yet; a slash stands before
+abbrev pub inside? : Reading → Bool
 inside? Between = false
-inside? Inside = true
+inside? (Inside v) = true
 inside? Behind = false
 
-abbrev pub behind? : Mode → Bool
+abbrev pub value_of : Reading → ℕ
+value_of Between = 0
+value_of (Inside v) = v
+value_of Behind = 0
+
+abbrev pub behind? : Reading → Bool
 behind? Between = false
-behind? Inside = false
+behind? (Inside v) = false
 behind? Behind = true
 
 -- READING NUMBERS: a number ends before a byte that is no digit and no slash (47)
-abbrev pub ends_number : Mode → ℕ → Bool
-ends_number mode b = (inside? mode && not (digit b)) && not (eqb b 47)
+abbrev pub ends_number : Reading → ℕ → Bool
+ends_number r b = (inside? r && not (digit b)) && not (eqb b 47)
 
 -- one digit more, of what 64 bits hold
 abbrev pub more_value : ℕ → ℕ → ℕ
@@ -34,17 +38,16 @@ more_value v b = cond (leb (v * 10 + (b - 48)) 18446744073709551615) (v * 10 + (
 -- one byte more; the numbers of a ratio are passed over
 unfoldable pub read : Reading → ℕ → Reading
 read r b =
-    cond (eqb b 47) (record { value = 0; mode = Behind })
-    (cond (digit b) (cond (behind? r.mode) r (record { value = more_value r.value b; mode = Inside })) (record { value = 0; mode = Between }))
+    cond (eqb b 47) Behind (cond (digit b) (cond (behind? r) r (Inside (more_value (value_of r) b))) Between)
 
 -- the numbers of a text behind n others, over those of a sheet
 unfoldable pub figures_on : List ℕ → ℕ → Reading → List ℕ → List ℕ
 figures_on figures n r [] = figures
 figures_on figures n r (b ∷ bs) =
-    cond (ends_number r.mode b && ltb n 83) (figures_on (set figures n r.value) (n + 1) (read r b) bs) (figures_on figures n (read r b) bs)
+    cond (ends_number r b && ltb n 83) (figures_on (set figures n (value_of r)) (n + 1) (read r b) bs) (figures_on figures n (read r b) bs)
 
 unfoldable pub figures_in : List ℕ → List ℕ
-figures_in text = figures_on no_figures 0 (record { value = 0; mode = Between }) text
+figures_in text = figures_on no_figures 0 Between text
 
 -- how many lines two texts share from their begin
 unfoldable pub same_lines : List ℕ → List ℕ → ℕ

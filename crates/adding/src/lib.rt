@@ -1,26 +1,19 @@
 // Whole summaries added up, piece by piece: the machine that `summary --add` runs.
 #![tactic(auto)]
 
-ghost use Rattle.std.specs.Prelude.{◌≡◌, ◌+◌, ◌≤◌, ◌<◌, eqb, length, is_none, IfSome, IfNone};
+ghost use Rattle.std.specs.Prelude.{◌≡◌, ◌+◌, ◌≤◌, ◌<◌, eqb, cond, length, Some, None, is_none, IfSome, IfNone};
 ghost use Rattle.text.specs.Digits.{Put};
 ghost use Rattle.tokens.specs.Tokens.{same};
 ghost use Rattle.adding.specs.Adding.{whole_text};
-ghost use Rattle.adding.specs.Machine.{ends_number, more_value, read, figures_in, same_lines, wrong_line, later, adds_up, bad_row, nothing_held};
+ghost use Rattle.adding.specs.Machine.{ends_number, value_of, more_value, read, figures_in, same_lines, wrong_line, later, adds_up, bad_row, nothing_held};
 ghost use Rattle.adding.specs.Machine.{judged, ends, counted, byte_on, fed_on, text_begun, text_ended, state_of, state_in, begun_state, closing, refusal_text};
 
-// Where in a text: between numbers, in a number, behind a slash.
+// How far a text was read: between numbers, in a number that is so much as yet, or behind a slash.
 #[derive(Clone, Copy)]
-enum Mode {
+enum Reading {
     Between,
-    Inside,
+    Inside(u64),
     Behind,
-}
-
-// How far a text was read, with the number that has begun.
-#[derive(Clone, Copy)]
-struct Reading {
-    value: u64,
-    mode: Mode,
 }
 
 // Why a text was refused: by a line, or by a sum past 64 bits.
@@ -49,10 +42,18 @@ pub struct Adding {
     pub at: Standing,
 }
 
-fn ends_number(mode: Mode, b: u8) -> bool
-    ensures { result ≡ ends_number mode b }
+// The number that ends before a byte, if one does.
+fn ended(r: Reading, b: u8) -> Option<u64>
+    ensures { result ≡ cond (ends_number r b) (Some (value_of r)) None }
 {
-    matches!(mode, Mode::Inside) & !b.is_ascii_digit() & (b != b'/')
+    match r {
+        Reading::Inside(value) => if b.is_ascii_digit() | (b == b'/') {
+            None
+        } else {
+            Some(value)
+        },
+        Reading::Between | Reading::Behind => None,
+    }
 }
 
 // One digit more; 0 where that takes more than 64 bits.
@@ -71,23 +72,15 @@ fn read_byte(r: Reading, b: u8) -> Reading
     ensures { result ≡ read r b }
 {
     if b == b'/' {
-        return Reading {
-            value: 0,
-            mode: Mode::Behind,
-        };
+        return Reading::Behind;
     }
     if !b.is_ascii_digit() {
-        return Reading {
-            value: 0,
-            mode: Mode::Between,
-        };
+        return Reading::Between;
     }
-    match r.mode {
-        Mode::Behind => r,
-        Mode::Between | Mode::Inside => Reading {
-            value: more_value(r.value, b),
-            mode: Mode::Inside,
-        },
+    match r {
+        Reading::Behind => r,
+        Reading::Between => Reading::Inside(more_value(0, b)),
+        Reading::Inside(value) => Reading::Inside(more_value(value, b)),
     }
 }
 
@@ -97,14 +90,13 @@ fn read_figures(text: &[u8]) -> [u64; 83]
 {
     let mut figures: [u64; 83] = [0; 83];
     let mut n: usize = 0;
-    let mut r = Reading {
-        value: 0,
-        mode: Mode::Between,
-    };
+    let mut r = Reading::Between;
     for b in text {
-        if ends_number(r.mode, *b) & (n < 83) {
-            figures[n] = r.value;
-            n += 1;
+        if let Some(value) = ended(r, *b) {
+            if n < 83 {
+                figures[n] = value;
+                n += 1;
+            }
         }
         r = read_byte(r, *b);
     }

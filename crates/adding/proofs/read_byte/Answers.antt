@@ -1,10 +1,9 @@
 -- `adding::read_byte` meets its contract: a slash, a digit, another byte. Assumes nothing.
-use mathlib.Core.Path.{◌≡◌, refl, sym, ◌∙◌}
+use mathlib.Core.Path.{◌≡◌, sym, ◌∙◌}
 use mathlib.Core.Bool.{true, false}
-use mathlib.Core.Logic.{⊎_elim}
 use borrow.Author.Tests.{ne_eqb}
 use Rattle.tokens.specs.Tokens.{digit}
-use Rattle.adding.specs.Machine.{behind?, read}
+use Rattle.adding.specs.Machine.{read}
 use Rattle.adding.proofs.read_byte.Goals as goal
 
 pub returns-then-b-eq47 : goal.returns-then-b-eq47
@@ -27,5 +26,10 @@ pub returns-in-Between : goal.returns-in-Between
 unfolding read
 returns-in-Between c =
     let here : digit c.args.b ≡ true = sym c.is_ascii_digit.ensures.value ∙ c.if-not-is_ascii_digit.false in
-    let numbers : behind? c.args.r.mode ≡ false = ⊎_elim (λ e. rw e refl) (λ e. rw e refl) c.in-Between.is in
-    rw (ne_eqb _ 47 c.if-b-eq47.false, here, c.more_value.ensures, numbers)
+    rw (ne_eqb _ 47 c.if-b-eq47.false, here, c.in-Between.is, c.more_value.ensures)
+
+pub returns-in-Inside : goal.returns-in-Inside
+unfolding read
+returns-in-Inside c =
+    let here : digit c.args.b ≡ true = sym c.is_ascii_digit.ensures.value ∙ c.if-not-is_ascii_digit.false in
+    rw (ne_eqb _ 47 c.if-b-eq47.false, here, c.in-Inside.is, c.more_value-in-Inside.ensures)
