@@ -11,14 +11,7 @@ const MOST: u32 = 10_000_000;
 pub fn measure(arrival: u32, e: u32, d: u32) -> u32
     ensures { result ≡ laxity arrival e d }
 {
-    if d < e {
-        return 0;
-    }
-    let left = d - e;
-    if left < arrival {
-        return 0;
-    }
-    left - arrival
+    d.saturating_sub(e).saturating_sub(arrival)
 }
 
 // "Refuse a laxity over 10,000,000".
