@@ -115,6 +115,7 @@ fn board_line(text: &[u8]) -> Result<Option<Event>, Wrong>
     }
 }
 
+#[tactic(auto, unfolding(crate::specs::Lines::submit_line, crate::specs::Lines::submit_behind, crate::specs::Lines::submit_numbers, crate::specs::Lines::said_or, crate::specs::Lines::asks))]
 fn submit_line(text: &[u8]) -> Result<Option<Event>, Wrong>
     ensures { result ≡ submit_line (words text.now) }
 {
