@@ -14,6 +14,7 @@ pub struct Batch {
 }
 
 // The name of a file, its first `size` bytes; `-` for standard input.
+// Stays: a buffer with its size, as a name is copied into fixed memory.
 #[derive(Clone, Copy)]
 pub struct Name {
     pub bytes: [u8; 4096],

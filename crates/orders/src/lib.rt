@@ -5,6 +5,7 @@ ghost use Rattle.std.specs.Prelude.{◌≡◌};
 ghost use Rattle.orders.specs.Orders.{no_order, refused, option, takes};
 
 // Whether help is asked for, answers in words are, an argument is wrong; which argument names the file, 0 for none.
+// Stays: 0 for no file is what `system` opens as standard input, and the definitions count arguments from 1.
 #[derive(Clone, Copy)]
 pub struct Order {
     pub help: bool,
