@@ -1,17 +1,31 @@
--- `session::put_line` meets its contract: what is copied into the part stands in the whole. Assumes nothing.
-use Prim.Native.Nat.{ℕ, ◌+◌, ◌-◌}
-use mathlib.Core.Path.{◌≡◌, sym, ◌∙◌}
-use mathlib.Core.List.{List, [], ◌∷◌, append_assoc}
+-- `session::put_line` meets its contract: six stores. Assumes nothing.
+use Prim.Native.Nat.{suc, ◌+◌}
+use mathlib.Core.Path.{◌≡◌}
 use native.Mathlib.Omega.{arith}
-use lib.ListN.{take, drop}
-use lib.Seq.{sets-eq, drop-drop}
+use lib.ListN.{length-set}
 use Rattle.session.proofs.put_line.Goals as goal
+
+pub bounds-answers-at-2 : goal.bounds-answers-at-2
+bounds-answers-at-2 c = simp length-set (omega arith)
+
+pub bounds-answers-at-3 : goal.bounds-answers-at-3
+bounds-answers-at-3 c = simp length-set (omega arith)
+
+pub bounds-answers-at-4 : goal.bounds-answers-at-4
+bounds-answers-at-4 c = simp length-set (omega arith)
+
+pub bounds-answers-at-5 : goal.bounds-answers-at-5
+bounds-answers-at-5 c = simp length-set (omega arith)
+
+pub bounds-answers-at-6 : goal.bounds-answers-at-6
+bounds-answers-at-6 c = simp length-set (omega arith)
 
 pub returns : goal.returns
 returns c =
-    let a = c.args in
-    let l = a.answers.now in
-    let words : List ℕ = a.event ∷ a.kind ∷ a.number ∷ a.column ∷ a.start ∷ a.finish ∷ [] in
-    let k : a.at + 6 - a.at ≡ 6 = omega arith in
-    rw (k, c.copy_from_slice.ensures.after, c.from.ensures, c.from-2.ensures, c.from-3.ensures, drop-drop 6 a.at l)
-    (sym (sets-eq words l a.at c.requires ∙ append_assoc (take a.at l) words (drop (a.at + 6) l)))
+    let at = c.args.at in
+    let e1 : at + 1 ≡ suc at = omega arith in
+    let e2 : at + 2 ≡ suc (suc at) = omega arith in
+    let e3 : at + 3 ≡ suc (suc (suc at)) = omega arith in
+    let e4 : at + 4 ≡ suc (suc (suc (suc at))) = omega arith in
+    let e5 : at + 5 ≡ suc (suc (suc (suc (suc at)))) = omega arith in
+    rw (e1, e2, e3, e4, e5, c.from.ensures, c.from-2.ensures, c.from-3.ensures)
