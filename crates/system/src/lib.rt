@@ -2,7 +2,7 @@
 // lines and the C library's are what is trusted (docs/PROMISES.md, What is trusted).
 #![tactic(auto)]
 
-ghost use Rattle.std.specs.Prelude.{◌≡◌, ◌+◌, ◌≤◌, length, IfSome, IfOk, IfErr};
+ghost use Rattle.std.specs.Prelude.{◌≡◌, ◌+◌, ◌≤◌, length, slice_index, IfSome, IfOk, IfErr};
 ghost use Rattle.std.specs.IoError.{error_kind};
 
 use arguments::Asked;
@@ -91,7 +91,8 @@ fn put_argument(rt: &impl Env, i: usize, bytes: &mut [u8]) -> usize
 
 // Standard input's name.
 pub fn standard() -> Name
-    ensures { (result.size ≤ 4096) × (length result.bytes ≡ 4096) }
+    ensures name { (result.size ≡ 1) × (slice_index result.bytes 0 ≡ 45) }
+    ensures room { length result.bytes ≡ 4096 }
 {
     let mut bytes = [0; 4096];
     bytes[0] = b'-';
