@@ -21,10 +21,9 @@ struct Summed {
 
 // One file more; none where it could not be read.
 fn sum_file(rt: &HostRuntime, before: Summed, file: usize, pace: &mut Pace) -> Option<Summed> {
-    let name = system::name_of(rt, file);
-    if name.size == 0 {
+    let Some(name) = system::name_of(rt, file) else {
         return Some(before);
-    }
+    };
     let label = system::label_of(b"summary: ", name);
     let mut s = summing::begin_file(before.summing);
     let mut piece = [0u8; 65536];
@@ -63,7 +62,7 @@ fn show_progress(rt: &HostRuntime, s: Summing, pace: &mut Pace) {
 fn sum_all(rt: &HostRuntime, files: Range<usize>, pace: &mut Pace) -> Option<Summed> {
     let mut done = Summed {
         summing: summing::begin(),
-        name: system::name_of(rt, 0),
+        name: system::standard(),
         on: true,
     };
     for file in files {
@@ -91,10 +90,9 @@ fn sum_files(rt: &HostRuntime, files: Range<usize>) -> io::Result<()> {
 
 // The machine after a text; none where the text could not be read or was refused.
 fn add_file(rt: &HostRuntime, before: Adding, file: usize) -> io::Result<Option<Adding>> {
-    let name = system::name_of(rt, file);
-    if name.size == 0 {
+    let Some(name) = system::name_of(rt, file) else {
         return Ok(Some(before));
-    }
+    };
     let label = system::label_of(b"summary: ", name);
     let program = &label.bytes[..label.size];
     let mut a = adding::begin_text(before);

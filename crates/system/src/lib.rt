@@ -2,7 +2,7 @@
 // lines and the C library's are what is trusted (docs/PROMISES.md, What is trusted).
 #![tactic(auto)]
 
-ghost use Rattle.std.specs.Prelude.{◌≡◌, ◌+◌, ◌≤◌, length, IfSome, IfOk, IfErr};
+ghost use Rattle.std.specs.Prelude.{◌≡◌, ◌+◌, ◌≤◌, length, slice_index, IfSome, IfOk, IfErr};
 ghost use Rattle.std.specs.IoError.{error_kind};
 
 use arguments::Asked;
@@ -89,18 +89,29 @@ fn put_argument(rt: &impl Env, i: usize, bytes: &mut [u8]) -> usize
     rt.arg(i, bytes).unwrap_or(0)
 }
 
-// The name that an argument names a file by, of no byte where it names none; standard input's for 0.
-pub fn name_of(rt: &impl Env, file: usize) -> Name
-    ensures { (result.size ≤ 4096) × (length result.bytes ≡ 4096) }
+// Standard input's name.
+pub fn standard() -> Name
+    ensures name { (result.size ≡ 1) × (slice_index result.bytes 0 ≡ 45) }
+    ensures room { length result.bytes ≡ 4096 }
 {
     let mut bytes = [0; 4096];
+    bytes[0] = b'-';
+    Name { bytes, size: 1 }
+}
+
+// The name that an argument names a file by, if it names one; standard input's for 0.
+pub fn name_of(rt: &impl Env, file: usize) -> Option<Name>
+    ensures { IfSome result (λ name. (name.size ≤ 4096) × (length name.bytes ≡ 4096)) }
+{
     if file == 0 {
-        bytes[0] = b'-';
-        return Name { bytes, size: 1 };
+        return Some(standard());
     }
-    let n = put_argument(rt, file, &mut bytes);
-    let size = if orders::is_option(&bytes[..n]) { 0 } else { n };
-    Name { bytes, size }
+    let mut bytes = [0; 4096];
+    let size = put_argument(rt, file, &mut bytes);
+    if orders::is_option(&bytes[..size]) {
+        return None;
+    }
+    Some(Name { bytes, size })
 }
 
 // Where the input comes from.
