@@ -1,20 +1,19 @@
 -- What `ask` writes for its arguments, however its recording is cut, is ask_text of both. Assumes nothing.
 use Prim.Native.Nat.{ℕ, suc, ◌+◌, ◌≤◌}
 use mathlib.Core.Path.{◌≡◌, refl, sym, ap, ◌∙◌, subst}
-use mathlib.Core.Bool.{Bool, true, false, cond, ◌||◌}
+use mathlib.Core.Bool.{Bool, true, false, cond}
 use mathlib.Core.List.{List, [], ◌∷◌, ◌++◌}
 use native.Mathlib.Omega.{arith}
 use native.Mathlib.Decide.{dec_le}
 use lib.Dec.{leb, ltb}
 use borrow.Author.Tests.{le-leb, lt-leb}
 use lib.ListN.{length, take, drop, length-append, length-map}
-use lib.Seq.{sets, sets-eq, length-sets, length-take-le, take-append_seam}
-use Rattle.text.specs.Output.{Output, before}
-use Rattle.questions.specs.declared.Question.{Question}
+use lib.Seq.{sets, sets-eq, length-sets, take-append_seam}
+use Rattle.text.specs.Output.{before}
 use Rattle.questions.specs.Questions.{asks}
 use Rattle.arguments.specs.declared.Asked.{Asked}
 use Rattle.arguments.specs.Arguments.{guarded, argument_text, joined_text}
-use Rattle.arguments.specs.Asked.{no_asked, refused_asked, asks_help, asks_from, fits_in, takes_asked, text_asked}
+use Rattle.arguments.specs.Asked.{no_asked, refused_asked, asks_help, asks_from, takes_asked, text_asked}
 use Rattle.asking.specs.declared.Asking.{Asking}
 use Rattle.asking.specs.Asking.{asked_output}
 use Rattle.asking.specs.Machine.{begun, closing, closed}

@@ -1,8 +1,7 @@
 -- WHAT `ask` WRITES, from its arguments and the bytes of the recording. Assumes nothing.
-use Rattle.std.specs.Prelude.{ℕ, suc, ◌+◌, Bool, true, false, cond, ◌||◌, List, [], ◌∷◌, ◌++◌, leb, length, take}
+use Rattle.std.specs.Prelude.{ℕ, suc, Option, Some, None, Bool, true, false, cond, ◌||◌, List, [], ◌∷◌, ◌++◌, leb, length, take}
 use Rattle.text.specs.Output.{Output}
 use Rattle.questions.specs.declared.Question.{Question}
-use Rattle.questions.specs.declared.Question.TheVariants.{Wrong, Horizon, Busy, Openings, Board, Stamp}
 use Rattle.questions.specs.Questions.{asks}
 use Rattle.arguments.specs.declared.Asked.{Asked}
 use Rattle.arguments.specs.Arguments.{joined_text}
@@ -43,20 +42,16 @@ unfoldable pub command_of : List (List ℕ) → Command
 command_of arguments = command_from (record { asked = no_asked; words = [] }) 1 arguments
 
 -- no question
-abbrev pub wrong? : Question → Bool
-wrong? Wrong = true
-wrong? Horizon = false
-wrong? (Busy i) = false
-wrong? (Openings a s c most) = false
-wrong? Board = false
-wrong? (Stamp i) = false
+abbrev pub wrong? : Option Question → Bool
+wrong? None = true
+wrong? (Some q) = false
 
 -- the question at the front of a text
-unfoldable pub question_in : List ℕ → ℕ → Question
-question_in text size = cond (leb size (length text)) (asks (take size text)) Wrong
+unfoldable pub question_in : List ℕ → ℕ → Option Question
+question_in text size = cond (leb size (length text)) (asks (take size text)) None
 
 -- help was asked for, an argument is wrong, the name of the file is missing, or the question is none
-unfoldable pub shows_manual : Asked → Question → Bool
+unfoldable pub shows_manual : Asked → Option Question → Bool
 shows_manual a q = a.help || (a.wrong || (a.named || wrong? q))
 
 -- "`--help` for each", on standard output; "a stray argument is refused with the usage", on standard error

@@ -7,6 +7,7 @@ use native.Mathlib.Omega.{arith}
 use borrow.Author.Tests.{eqb-true}
 use lib.Dec.{eqb}
 use lib.ListN.{length, take, drop, length-drop}
+use Rattle.std.proofs.Common.{Option, Some, None}
 use Rattle.planners.specs.Openings.{Place}
 use Rattle.board.specs.declared.Board.{Board}
 use Rattle.board.specs.Refusals.{refused_openings}
@@ -163,15 +164,15 @@ feeds-read (feed a p more f) =
     }
 
 -- THE FIRST PART AND THE FURTHER ONES are the answer
-first-answers : (q : Question) (b : Board) (a : Asking) {text : List ℕ} → a.reader.state.board ≡ b → a.page ≡ (first_part q b).page → a.more ≡ (first_part q b).more → Parts a text
+first-answers : (q : Option Question) (b : Board) (a : Asking) {text : List ℕ} → a.reader.state.board ≡ b → a.page ≡ (first_part q b).page → a.more ≡ (first_part q b).more → Parts a text
     → (first_part q b).text ++ text ≡ answered q b
 unfolding first_part answered replied
-first-answers Asked.Wrong b a e f m p = parts_none m p
-first-answers Asked.Horizon b a e f m p = ap (λ t. answered Asked.Horizon b ++ t) (parts_none m p) ∙ append-nil _
-first-answers (Asked.Busy i) b a e f m p = ap (λ t. answered (Asked.Busy i) b ++ t) (parts_none m p) ∙ append-nil _
-first-answers Asked.Board b a e f m p = ap (λ t. answered Asked.Board b ++ t) (parts_none m p) ∙ append-nil _
-first-answers (Asked.Stamp i) b a e f m p = ap (λ t. answered (Asked.Stamp i) b ++ t) (parts_none m p) ∙ append-nil _
-first-answers (Asked.Openings k s c most) b a {text} e f m p = ap (λ t. answer_text number ++ t) (go (eqb number 0) refl)
+first-answers None b a e f m p = parts_none m p
+first-answers (Some Asked.Horizon) b a e f m p = ap (λ t. answered (Some Asked.Horizon) b ++ t) (parts_none m p) ∙ append-nil _
+first-answers (Some (Asked.Busy i)) b a e f m p = ap (λ t. answered (Some (Asked.Busy i)) b ++ t) (parts_none m p) ∙ append-nil _
+first-answers (Some Asked.Board) b a e f m p = ap (λ t. answered (Some Asked.Board) b ++ t) (parts_none m p) ∙ append-nil _
+first-answers (Some (Asked.Stamp i)) b a e f m p = ap (λ t. answered (Some (Asked.Stamp i)) b ++ t) (parts_none m p) ∙ append-nil _
+first-answers (Some (Asked.Openings k s c most)) b a {text} e f m p = ap (λ t. answer_text number ++ t) (go (eqb number 0) refl)
   where
     number : ℕ
     number = (opened b k s c 0).number
@@ -189,7 +190,7 @@ first-answers (Asked.Openings k s c most) b a {text} e f m p = ap (λ t. answer_
     go false t = parts_none (m ∙ t) p ∙ sym (ap (λ u. cond u rows []) t)
 
 -- THE THEOREM: however the input is cut, what is written of it is what `ask` writes of the whole
-pub asks-whole : (q : Question) {bytes : List ℕ} {last : Asking} {text : List ℕ} → Feeds (begun q) bytes last → Parts (closed last).asking text
+pub asks-whole : (q : Option Question) {bytes : List ℕ} {last : Asking} {text : List ℕ} → Feeds (begun q) bytes last → Parts (closed last).asking text
     → before (closing last) (record { out = text; err = [] }) ≡ asked_output q bytes
 unfolding asked_output closing
 asks-whole q {bytes} {last} {text} f p = λ i. record { out = (out ∙ ap (λ (x : Story). cond (whole? x.end) (answered q x.state.board) []) (sym whole)) i; err = err i }
@@ -247,6 +248,6 @@ asks-whole q {bytes} {last} {text} f p = λ i. record { out = (out ∙ ap (λ (x
     err = append-nil _ ∙ names-event bytes number ends ∙ ap₂ (λ n e. end_text (suc n) e) number ends
 
 -- AND IT COMES TO AN END: of a piece that has a byte something is taken
-pub feed-takes : (q : Question) {bytes : List ℕ} {last : Asking} → Feeds (begun q) bytes last → (piece : List ℕ) → 0 < length piece → 0 < (fed_with last piece).taken
+pub feed-takes : (q : Option Question) {bytes : List ℕ} {last : Asking} → Feeds (begun q) bytes last → (piece : List ℕ) → 0 < length piece → 0 < (fed_with last piece).taken
 unfolding fed_with fed begun
 feed-takes q f piece h = Reading.reads-takes (feeds-read f).reads piece line_words h (omega arith)

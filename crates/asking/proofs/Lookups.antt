@@ -1,5 +1,5 @@
 -- What the lookups of a board answer, as rows of text: the horizon, and the openings from a page on. Assumes nothing.
-use Prim.Native.Nat.{ℕ, zero, suc, ◌+◌, ◌-◌, ◌*◌, ◌/◌, ◌≤◌, min}
+use Prim.Native.Nat.{ℕ, zero, suc, ◌-◌, ◌*◌, ◌/◌, ◌≤◌, min}
 use mathlib.Core.Path.{◌≡◌, refl, sym, ap, ap₂, ◌∙◌}
 use mathlib.Core.Bool.{false, not}
 use mathlib.Core.List.{List, [], ◌∷◌, ◌++◌, map, append_assoc}
@@ -8,6 +8,7 @@ use borrow.Author.Tests.{le-ltb, ltb-false}
 use lib.Dec.{ltb}
 use lib.ListN.{length, take, drop, get_or, length-take, take-append-drop}
 use lib.Seq.{drop-append-le}
+use Rattle.std.proofs.Common.{Some}
 use Rattle.lists.specs.Lists.{last_or, over_front}
 use Rattle.planners.specs.Openings.{Place, pair_numbers}
 use Rattle.lookups.specs.Lookups.{Strip, strip_numbers}
@@ -65,7 +66,7 @@ listed-number b words = go (refused_horizon b words)
     go (suc k) = refl
 
 pub horizon-answers : (b : Board) (lent : List ℕ) {l : Listed} {words : List ℕ} → length lent ≡ horizon_words → l ≡ listed b (length lent) → words ≡ listed_buffer b lent
-    → replied l.number (rows_text (rows_of 3 l.count words)) ≡ answered Asked.Horizon b
+    → replied l.number (rows_text (rows_of 3 l.count words)) ≡ answered (Some Asked.Horizon) b
 unfolding answered
 horizon-answers b lent {l} {words} s e f =
     ap (λ n. replied n (rows_text (rows_of 3 l.count words))) (ap (λ x. x.number) same) ∙ replied-same (listed b horizon_words).number rows

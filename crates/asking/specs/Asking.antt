@@ -1,5 +1,5 @@
 -- What the program `ask` writes, by its question and the bytes of the recording. Assumes nothing.
-use Rattle.std.specs.Prelude.{ℕ, suc, Bool, true, false, cond, List, [], ◌∷◌, ◌++◌, map, ltb, eqb, length, take}
+use Rattle.std.specs.Prelude.{ℕ, suc, Option, Some, None, Bool, true, false, cond, List, [], ◌∷◌, ◌++◌, map, ltb, eqb, length, take}
 use Rattle.planners.specs.Openings.{Place}
 use Rattle.lookups.specs.Lookups.{Strip}
 use Rattle.board.specs.declared.Board.{Board}
@@ -45,14 +45,14 @@ horizon_words = 768
 abbrev pub unsoundness : Board → ℕ
 unsoundness b = cond (sound_board b) 0 1
 
--- THE ANSWER to a question about a board
-unfoldable pub answered : Question → Board → List ℕ
-answered Asked.Wrong b = []
-answered Asked.Horizon b = replied (listed b horizon_words).number (rows_text (map strip_row (horizon_of b)))
-answered (Asked.Busy i) b = replied (counted b i).number (row_text ((counted b i).count ∷ []))
-answered (Asked.Openings a s c most) b = replied (opened b a s c 0).number (openings_text most (remaining b a s c))
-answered Asked.Board b = replied (unsoundness b) (board_text b)
-answered (Asked.Stamp i) b = replied (unsoundness b) (stamp_text i b)
+-- THE ANSWER to a question about a board; none where nothing is asked
+unfoldable pub answered : Option Question → Board → List ℕ
+answered None b = []
+answered (Some Asked.Horizon) b = replied (listed b horizon_words).number (rows_text (map strip_row (horizon_of b)))
+answered (Some (Asked.Busy i)) b = replied (counted b i).number (row_text ((counted b i).count ∷ []))
+answered (Some (Asked.Openings a s c most)) b = replied (opened b a s c 0).number (openings_text most (remaining b a s c))
+answered (Some Asked.Board) b = replied (unsoundness b) (board_text b)
+answered (Some (Asked.Stamp i)) b = replied (unsoundness b) (stamp_text i b)
 
 -- the recording is whole: only then is the question answered
 unfoldable pub whole? : Ending → Bool
@@ -73,7 +73,7 @@ end_text event AtLast = []
 end_text event PastLast = ascii "ask: the recording has more than 1000000000 events: not answered\n"
 
 -- WHAT `ask` WRITES: "reads event records from standard input as `plan` does, in silence", and then answers about the board as it stands
-unfoldable pub asked_output : Question → List ℕ → Output
+unfoldable pub asked_output : Option Question → List ℕ → Output
 asked_output q bytes =
     let s = story bytes in
     record { out = cond (whole? s.end) (answered q s.state.board) []; err = end_text (suc (length s.events)) s.end }

@@ -1,5 +1,5 @@
 -- The program `ask` call by call: what each writes, and where it leaves the program standing. Assumes nothing.
-use Rattle.std.specs.Prelude.{ℕ, suc, ◌-◌, min, ◌≡◌, Bool, true, false, cond, ◌||◌, List, [], leb, eqb, length, take}
+use Rattle.std.specs.Prelude.{ℕ, suc, Option, Some, None, ◌-◌, min, ◌≡◌, Bool, true, false, cond, ◌||◌, List, [], leb, eqb, length, take}
 use Rattle.lists.specs.Lists.{last_or, over_front}
 use Rattle.ways.specs.Ways.{pair}
 use Rattle.planners.specs.Openings.{Place}
@@ -36,15 +36,15 @@ abbrev pub alone : List ℕ → Piece
 alone text = record { text = text; page = no_page; more = false }
 
 -- THE FIRST PART: all of the answer; of openings the line `answer N`, and their pages follow if N is 0
-unfoldable pub first_part : Question → Board → Piece
-first_part Asked.Wrong b = alone []
-first_part Asked.Horizon b = alone (answered Asked.Horizon b)
-first_part (Asked.Busy i) b = alone (answered (Asked.Busy i) b)
-first_part (Asked.Openings a s c most) b =
+unfoldable pub first_part : Option Question → Board → Piece
+first_part None b = alone []
+first_part (Some Asked.Horizon) b = alone (answered (Some Asked.Horizon) b)
+first_part (Some (Asked.Busy i)) b = alone (answered (Some (Asked.Busy i)) b)
+first_part (Some (Asked.Openings a s c most)) b =
     let number = (opened b a s c 0).number in
     record { text = answer_text number; page = record { task = a; start = s; column = c; left = most }; more = eqb number 0 }
-first_part Asked.Board b = alone (answered Asked.Board b)
-first_part (Asked.Stamp i) b = alone (answered (Asked.Stamp i) b)
+first_part (Some Asked.Board) b = alone (answered (Some Asked.Board) b)
+first_part (Some (Asked.Stamp i)) b = alone (answered (Some (Asked.Stamp i)) b)
 
 -- a page has at most so many rows
 abbrev pub page_rows : ℕ
@@ -84,7 +84,7 @@ pub record Said (p : Piece) (r : Part) (lent out : List ℕ) : Type 0 where
   pub text : out ≡ over_front p.text lent
 
 -- BEGIN
-unfoldable pub begun : Question → Asking
+unfoldable pub begun : Option Question → Asking
 begun q = record { reader = first_reader; question = q; page = no_page; more = false }
 
 -- room for the words of 992 lines, which nobody reads

@@ -1,7 +1,7 @@
 // The program `ask` as a machine: it is fed the recording in pieces, closed, and then says its answer part by part.
 #![tactic(auto)]
 
-ghost use Rattle.std.specs.Prelude.{◌≡◌, ◌+◌, ◌*◌, ◌≤◌, min, length, take};
+ghost use Rattle.std.specs.Prelude.{◌≡◌, ◌+◌, ◌*◌, ◌≤◌, min, Some, length, take};
 ghost use Rattle.lists.specs.Lists.{over_front};
 ghost use Rattle.text.specs.Digits.{Put};
 ghost use Rattle.planners.specs.Openings.{pair_numbers};
@@ -26,11 +26,11 @@ pub struct Page {
     pub left: u32,
 }
 
-// Where the program stands; `more` is true where a further part of the answer waits.
+// Where the program stands; `more` is true where a further part of the answer waits. Where nothing is asked, nothing is answered.
 #[derive(Clone, Copy)]
 pub struct Asking {
     pub reader: Reader,
-    pub question: Question,
+    pub question: Option<Question>,
     pub page: Page,
     pub more: bool,
 }
@@ -84,15 +84,13 @@ fn no_page() -> Page
     }
 }
 
-pub fn begin(question: Question) -> Asking
+pub fn begin(question: Option<Question>) -> Asking
     ensures { result ≡ begun question }
 {
-    let reader = reader::begin();
-    let page = no_page();
     Asking {
-        reader: reader,
-        question: question,
-        page: page,
+        reader: reader::begin(),
+        question,
+        page: no_page(),
         more: false,
     }
 }
@@ -102,18 +100,12 @@ pub fn feed(a: Asking, piece: &[u8]) -> Fed
     ensures value { result ≡ fed_with a piece.now }
     ensures taken_in_bounds { result.taken ≤ length piece.now }
 {
-    let reader = a.reader;
-    let question = a.question;
-    let page = a.page;
     let mut lines = [0u32; 5952];
-    let f = reader::feed(reader, piece, &mut lines);
-    let then = f.reader;
+    let f = reader::feed(a.reader, piece, &mut lines);
     Fed {
         asking: Asking {
-            reader: then,
-            question: question,
-            page: page,
-            more: a.more,
+            reader: f.reader,
+            ..a
         },
         taken: f.taken,
     }
@@ -126,7 +118,7 @@ fn reply(out: &mut [u8], number: u8, rows: &[u8]) -> usize
     ensures out_after { out.new ≡ over_front (replied number rows.now) out.old }
 {
     let mut line = [0u8; 8192];
-    let n = board_text::put_answer(&mut line, number as u32);
+    let n = board_text::put_answer(&mut line, u32::from(number));
     let at = text::put_bytes(out, 0, &line[0..n]);
     if number == 0 {
         return text::put_bytes(out, at, rows);
@@ -136,8 +128,8 @@ fn reply(out: &mut [u8], number: u8, rows: &[u8]) -> usize
 
 // "rows `first last release`".
 fn answer_horizon(board: Board, out: &mut [u8; 65536]) -> usize
-    ensures value { result ≡ length (answered Horizon board) }
-    ensures out_after { out.new ≡ over_front (answered Horizon board) out.old }
+    ensures value { result ≡ length (answered (Some Horizon) board) }
+    ensures out_after { out.new ≡ over_front (answered (Some Horizon) board) out.old }
 {
     let mut words = [0u32; 768];
     let mut rows = [0u8; 8448];
@@ -148,8 +140,8 @@ fn answer_horizon(board: Board, out: &mut [u8; 65536]) -> usize
 
 // "one row, the number".
 fn answer_busy(board: Board, instant: u32, out: &mut [u8; 65536]) -> usize
-    ensures value { result ≡ length (answered (Busy instant) board) }
-    ensures out_after { out.new ≡ over_front (answered (Busy instant) board) out.old }
+    ensures value { result ≡ length (answered (Some (Busy instant)) board) }
+    ensures out_after { out.new ≡ over_front (answered (Some (Busy instant)) board) out.old }
 {
     let r = board.busy(instant);
     let mut row = [0u8; 16];
@@ -161,10 +153,7 @@ fn answer_busy(board: Board, instant: u32, out: &mut [u8; 65536]) -> usize
 fn unsound(board: Board) -> u8
     ensures { result ≡ unsoundness board }
 {
-    if board.is_sound() {
-        return 0;
-    }
-    1
+    u8::from(!board.is_sound())
 }
 
 // The same with the front of a table of rows, where a board has only to be sound.
@@ -179,8 +168,8 @@ fn show(out: &mut [u8; 65536], board: Board, rows: [u8; 8192], n: usize) -> usiz
 
 // "a row `W H now`, then a row .. for each live task by slot".
 fn answer_board(board: Board, out: &mut [u8; 65536]) -> usize
-    ensures value { result ≡ length (answered TheBoard board) }
-    ensures out_after { out.new ≡ over_front (answered TheBoard board) out.old }
+    ensures value { result ≡ length (answered (Some TheBoard) board) }
+    ensures out_after { out.new ≡ over_front (answered (Some TheBoard) board) out.old }
 {
     let mut rows = [0u8; 8192];
     let n = board_text::put_board(&mut rows, board);
@@ -189,8 +178,8 @@ fn answer_board(board: Board, out: &mut [u8; 65536]) -> usize
 
 // "as `ask board`, the phases stamped at T".
 fn answer_stamp(board: Board, instant: u32, out: &mut [u8; 65536]) -> usize
-    ensures value { result ≡ length (answered (Stamp instant) board) }
-    ensures out_after { out.new ≡ over_front (answered (Stamp instant) board) out.old }
+    ensures value { result ≡ length (answered (Some (Stamp instant)) board) }
+    ensures out_after { out.new ≡ over_front (answered (Some (Stamp instant)) board) out.old }
 {
     let mut rows = [0u8; 8192];
     let n = board_text::put_stamped(&mut rows, board, instant);
@@ -199,16 +188,14 @@ fn answer_stamp(board: Board, instant: u32, out: &mut [u8; 65536]) -> usize
 
 // The line of the answer; where that is 0 the pages follow. A buffer of no words has room for no opening.
 fn answer_openings(board: Board, first: Page, out: &mut [u8; 65536]) -> Part
-    ensures { Said (first_part (Openings first.task first.start first.column first.left) board) result out.old out.new }
+    ensures { Said (first_part (Some (Openings first.task first.start first.column first.left)) board) result out.old out.new }
 {
-    let task = first.task;
     let mut none = [0u32; 0];
-    let r = board.openings(task, first.start, first.column, &mut none);
+    let r = board.openings(first.task, first.start, first.column, &mut none);
     let mut line = [0u8; 8192];
-    let n = board_text::put_answer(&mut line, r.number as u32);
-    let used = text::put_bytes(out, 0, &line[0..n]);
+    let n = board_text::put_answer(&mut line, u32::from(r.number));
     Part {
-        used: used,
+        used: text::put_bytes(out, 0, &line[0..n]),
         page: first,
         more: r.number == 0,
     }
@@ -218,28 +205,23 @@ fn answer_openings(board: Board, first: Page, out: &mut [u8; 65536]) -> Part
 fn whole(used: usize) -> Part
     ensures { result ≡ whole_part used }
 {
-    let page = no_page();
     Part {
-        used: used,
-        page: page,
+        used,
+        page: no_page(),
         more: false,
     }
 }
 
 // THE FIRST PART of the answer.
-fn answer(board: Board, question: Question, out: &mut [u8; 65536]) -> Part
+fn answer(board: Board, question: Option<Question>, out: &mut [u8; 65536]) -> Part
     ensures { Said (first_part question board) result out.old out.new }
 {
+    let Some(question) = question else {
+        return whole(0);
+    };
     match question {
-        Question::Wrong => whole(0),
-        Question::Horizon => {
-            let n = answer_horizon(board, out);
-            whole(n)
-        }
-        Question::Busy(instant) => {
-            let n = answer_busy(board, instant, out);
-            whole(n)
-        }
+        Question::Horizon => whole(answer_horizon(board, out)),
+        Question::Busy(instant) => whole(answer_busy(board, instant, out)),
         Question::Openings {
             task,
             start,
@@ -247,31 +229,16 @@ fn answer(board: Board, question: Question, out: &mut [u8; 65536]) -> Part
             most,
         } => {
             let first = Page {
-                task: task,
-                start: start,
-                column: column as u32,
+                task,
+                start,
+                column: u32::from(column),
                 left: most,
             };
             answer_openings(board, first, out)
         }
-        Question::Board => {
-            let n = answer_board(board, out);
-            whole(n)
-        }
-        Question::Stamp(instant) => {
-            let n = answer_stamp(board, instant, out);
-            whole(n)
-        }
+        Question::Board => whole(answer_board(board, out)),
+        Question::Stamp(instant) => whole(answer_stamp(board, instant, out)),
     }
-}
-
-fn least(left: u32) -> usize
-    ensures { result ≡ min left page_rows }
-{
-    if left < PAGE {
-        return left as usize;
-    }
-    PAGE as usize
 }
 
 // The next openings, as many as were asked for and a page has room for: one public call.
@@ -280,9 +247,8 @@ fn look(board: Board, page: Page, words: &mut [u32]) -> Opened
     ensures value { result ≡ opened board page.task page.start page.column (2 * min page.left page_rows) }
     ensures words_after { words.new ≡ over_front (pair_numbers (take (min page.left page_rows) (left_to board page))) words.old }
 {
-    let task = page.task;
-    let size = 2 * least(page.left);
-    board.openings(task, page.start, page.column, &mut words[0..size])
+    let size = 2 * page.left.min(PAGE) as usize;
+    board.openings(page.task, page.start, page.column, &mut words[0..size])
 }
 
 // "then a row `more` or `end`"; the place after it.
@@ -308,14 +274,13 @@ fn turn(board: Board, page: Page, out: &mut [u8; 65536]) -> Part
         let used = put_last(out, n, r.more);
         return whole(used);
     }
-    let task = page.task;
     Part {
         used: n,
         page: Page {
-            task: task,
             start: words[2 * count - 2],
             column: words[2 * count - 1],
             left: page.left - PAGE,
+            ..page
         },
         more: true,
     }
@@ -353,24 +318,14 @@ fn put_end(err: &mut [u8; 512], event: u32, end: Ending) -> usize
 fn is_whole(end: Ending) -> bool
     ensures { result ≡ whole? end }
 {
-    match end {
-        Ending::NotYet => false,
-        Ending::AtEnd => true,
-        Ending::In15(_) => false,
-        Ending::In16(_) => false,
-        Ending::AtLast => true,
-        Ending::PastLast => false,
-    }
+    matches!(end, Ending::AtEnd | Ending::AtLast)
 }
 
 // The number of the next event; there is none past the last that may be.
 fn next_event(number: u32) -> u32
     ensures { result ≡ next_event number }
 {
-    if number < session::MOST_EVENTS {
-        return number + 1;
-    }
-    session::MOST_EVENTS
+    number.min(session::MOST_EVENTS - 1) + 1
 }
 
 // The first part of the answer, where the recording is whole.
@@ -380,11 +335,7 @@ fn begin_answer(a: Asking, end: Ending, out: &mut [u8; 65536]) -> Part
     if !is_whole(end) {
         return whole(0);
     }
-    let reader = a.reader;
-    let state = reader.state;
-    let board = state.board;
-    let question = a.question;
-    answer(board, question, out)
+    answer(a.reader.state.board, a.question, out)
 }
 
 // THE INPUT HAS ENDED: the first part of the answer, or why there is none.
@@ -394,21 +345,17 @@ pub fn close(a: Asking, out: &mut [u8; 65536], err: &mut [u8; 512]) -> Closed
     ensures err_after { err.new ≡ over_front (closing a).err err.old }
     ensures used_in_bounds { (result.used ≤ length out.new) × (result.said ≤ length err.new) }
 {
-    let reader = a.reader;
-    let question = a.question;
-    let end = reader::close(reader);
-    let said = put_end(err, next_event(reader.number), end);
+    let end = reader::close(a.reader);
+    let said = put_end(err, next_event(a.reader.number), end);
     let part = begin_answer(a, end, out);
-    let page = part.page;
     Closed {
         asking: Asking {
-            reader: reader,
-            question: question,
-            page: page,
+            page: part.page,
             more: part.more,
+            ..a
         },
         used: part.used,
-        said: said,
+        said,
     }
 }
 
@@ -421,18 +368,12 @@ pub fn next(a: Asking, out: &mut [u8; 65536]) -> Went
     if !a.more {
         return Went { asking: a, used: 0 };
     }
-    let reader = a.reader;
-    let state = reader.state;
-    let board = state.board;
-    let question = a.question;
-    let part = turn(board, a.page, out);
-    let page = part.page;
+    let part = turn(a.reader.state.board, a.page, out);
     Went {
         asking: Asking {
-            reader: reader,
-            question: question,
-            page: page,
+            page: part.page,
             more: part.more,
+            ..a
         },
         used: part.used,
     }

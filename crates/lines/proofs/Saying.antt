@@ -1,6 +1,6 @@
 -- A line word by word: which of the definition's cases the tests of the code come to. Assumes nothing.
 use Prim.Native.Nat.{ℕ, suc, ◌+◌, ◌-◌}
-use mathlib.Core.Path.{◌≡◌, refl, sym, ap, ◌∙◌}
+use mathlib.Core.Path.{◌≡◌, refl, sym, ◌∙◌}
 use mathlib.Core.Bool.{Bool, true, false, cond, ◌&&◌}
 use mathlib.Core.List.{List, [], ◌∷◌}
 use native.Mathlib.Omega.{arith}
@@ -8,14 +8,13 @@ use borrow.Author.Tests.{lt-ltb, ne_eqb}
 use lib.Dec.{eqb}
 use lib.ListN.{length, take, drop}
 use lib.Pointwise.{pointwise}
-use Rattle.std.proofs.Common.{Option, Some, Ok}
+use Rattle.std.proofs.Common.{Some, Ok}
 use Rattle.lists.specs.Lists.{last_or}
 use Rattle.events.specs.declared.Event.{Event}
-use Rattle.events.specs.declared.Event.TheVariants.{Submit}
-use Rattle.tokens.specs.Tokens.{first_word, other_words, fits, wrong, nth}
+use Rattle.tokens.specs.Tokens.{fits, wrong}
 use Rattle.lines.specs.declared.Kind.{Kind}
 use Rattle.lines.specs.declared.Kind.TheVariants.{Board}
-use Rattle.lines.specs.Lines.{Line, wrong_line, less_return, planner_of, said_or, asks, submit_numbers, submit_behind, submit_line, plain_line, grid_line, board_line}
+use Rattle.lines.specs.Lines.{Line, wrong_line, less_return, said_or, plain_line, grid_line, board_line}
 
 -- a word that is wrong, and none
 pub said-wrong : (kind : Kind) (n : ℕ) (event : Event) (w : ℕ) → (w ≡ 0 → ⊥) → wrong_line kind (w + n) ≡ said_or kind n w event
@@ -80,15 +79,3 @@ less_one l e = rw (sym (last-is l) ∙ e)
 pub less-same : (l : List ℕ) → pointwise eqb (drop (length l - 1) l) (13 ∷ []) ≡ false → l ≡ less_return l
 unfolding less_return
 less-same l e = rw (sym (last-is l) ∙ e)
-
--- A SUBMISSION: its planner, then its numbers
-pub submit-line : (ws : List (List ℕ)) {behind : List (List ℕ)} {p : List ℕ} {planner : Option ℕ} {line : Line} → p ≡ first_word ws → behind ≡ other_words ws
-    → planner ≡ planner_of p → line ≡ submit_numbers planner behind → line ≡ submit_line ws
-unfolding submit_line submit_behind
-submit-line ws {behind} {p} {planner} {line} w b e f =
-    f ∙ ap (λ o. submit_numbers o behind) (e ∙ ap planner_of w) ∙ ap (submit_numbers (planner_of (first_word ws))) b
-
-pub submit-asks : (ws : List (List ℕ)) {planner id w h e d : ℕ} → id ≡ nth 0 ws → w ≡ nth 1 ws → h ≡ nth 2 ws → e ≡ nth 3 ws → d ≡ nth 4 ws
-    → Submit planner (record { id = id; e = e; d = d; w = w; h = h }) ≡ asks planner ws
-unfolding asks
-submit-asks ws a b c k l = rw (a, b, c, k, l)

@@ -86,6 +86,7 @@ fn numbers<const N: usize>(
 }
 
 // The words behind the name of each kind of line; those of a board with a third word, which is its grid.
+#[tactic(auto, unfolding(crate::specs::Lines::grid_line, crate::specs::Lines::said_or))]
 fn grid_line(text: &[u8]) -> Result<Option<Event>, Wrong>
     ensures { result ≡ grid_line (words text.now) }
 {
@@ -114,6 +115,7 @@ fn board_line(text: &[u8]) -> Result<Option<Event>, Wrong>
     }
 }
 
+#[tactic(auto, unfolding(crate::specs::Lines::submit_line, crate::specs::Lines::submit_behind, crate::specs::Lines::submit_numbers, crate::specs::Lines::said_or, crate::specs::Lines::asks))]
 fn submit_line(text: &[u8]) -> Result<Option<Event>, Wrong>
     ensures { result ≡ submit_line (words text.now) }
 {
@@ -136,6 +138,7 @@ fn submit_line(text: &[u8]) -> Result<Option<Event>, Wrong>
     Ok(Some(Event::Submit { planner, ask }))
 }
 
+#[tactic(auto, unfolding(crate::specs::Lines::clock_line, crate::specs::Lines::said_or))]
 fn clock_line(text: &[u8]) -> Result<Option<Event>, Wrong>
     ensures { result ≡ clock_line (words text.now) }
 {
@@ -143,6 +146,7 @@ fn clock_line(text: &[u8]) -> Result<Option<Event>, Wrong>
     Ok(Some(Event::Clock { instant }))
 }
 
+#[tactic(auto, unfolding(crate::specs::Lines::withdraw_line, crate::specs::Lines::said_or))]
 fn withdraw_line(text: &[u8]) -> Result<Option<Event>, Wrong>
     ensures { result ≡ withdraw_line (words text.now) }
 {

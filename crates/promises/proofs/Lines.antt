@@ -1,5 +1,5 @@
 -- What a line says: the line that is written for an event says that event. Assumes nothing.
-use Prim.Native.Nat.{ℕ, ◌+◌, ◌≤◌, ◌<◌}
+use Prim.Native.Nat.{ℕ, ◌≤◌, ◌<◌}
 use mathlib.Core.Path.{◌≡◌, refl, sym, ap, ◌∙◌}
 use mathlib.Core.Bool.{false}
 use mathlib.Core.List.{List, [], ◌∷◌, ◌++◌, append-nil, append_assoc}
@@ -14,11 +14,10 @@ use Rattle.events.specs.declared.Event.{Event}
 use Rattle.events.specs.declared.Event.TheVariants.{NewBoard, Submit, Clock, Withdraw, GridBoard}
 use Rattle.text.specs.Text.{ascii, decimal}
 use Rattle.text.proofs.Meaning.{Digits, decimal-value, decimal-digits}
-use Rattle.tokens.specs.declared.Sort.TheVariants.{Hash}
-use Rattle.tokens.specs.Tokens.{blank, stops_at, ended, words_on, words, first_word, other_words, same, empty, wrong, nth}
+use Rattle.tokens.specs.Tokens.{blank, ended, words_on, words, first_word, other_words, same, empty, wrong, nth}
 use Rattle.tokens.proofs.Judged.{fits-decimal, some-digit}
-use Rattle.lines.specs.declared.Line.TheVariants.{Says}
-use Rattle.lines.specs.Lines.{less_return, bare, planner_of, said_or, plain_line, grid_line, board_line, clock_line, withdraw_line, asks, submit_behind, submit_line, said_by, says}
+use Rattle.std.proofs.Common.{Option, Some, Ok}
+use Rattle.lines.specs.Lines.{Line, less_return, hash, bare, planner_of, said_or, plain_line, grid_line, board_line, clock_line, withdraw_line, asks, submit_numbers, submit_behind, submit_line, said_by, says}
 use Rattle.promises.specs.Said.{joined, words_of, Wide}
 
 -- no comment and no carriage return among some bytes; no blank besides
@@ -69,8 +68,8 @@ clear-joined [] none = tt
 clear-joined (w ∷ []) (more x none) = x.clear
 clear-joined (w ∷ v ∷ ws) (more x e) = clear_both w (32 ∷ joined (v ∷ ws)) x.clear (refl, refl, clear-joined (v ∷ ws) e)
 
-no-comment : (l : List ℕ) → Clear l → index_of (stops_at Hash) l ≡ length l
-unfolding Clear index_of stops_at
+no-comment : (l : List ℕ) → Clear l → index_of hash l ≡ length l
+unfolding Clear index_of
 no-comment [] p = refl
 no-comment (b ∷ bs) p = rw (p.0, no-comment bs p.2, add-one (length bs))
 
@@ -107,7 +106,7 @@ unfolding Digits same
 no_name [] x xs p h = refl
 no_name (d ∷ ds) x xs p h = let high : d ≤ 57 = p.0.most in rw (ne_eqb d x (λ e. omega arith))
 
-planner-number : (n : ℕ) → n < 256 → planner_of (decimal n) ≡ n
+planner-number : (n : ℕ) → n < 256 → ◌≡◌ {A = Option ℕ} (planner_of (decimal n)) (Some n)
 unfolding planner_of
 planner-number n h =
     let d : Digits (decimal n) = decimal-digits n in
@@ -117,7 +116,7 @@ planner-number n h =
       no_name (decimal n) 115 (116 ∷ 117 ∷ 102 ∷ 102 ∷ 105 ∷ 110 ∷ 103 ∷ []) d (omega arith),
       no_name (decimal n) 102 (117 ∷ 108 ∷ 108 ∷ []) d (omega arith),
       fits-decimal 255 n (omega arith),
-    ) (decimal-value n)
+    ) (ap Some (decimal-value n))
 
 board-word : Worded (ascii "board")
 unfolding Clear Solid
@@ -140,8 +139,8 @@ withdraw-word = record {
 }
 
 -- A LINE FOR AN EVENT says that event
-pub says-event : (v : Event) → Wide v → says (joined (words_of v)) ≡ Says v
-unfolding Wide words_of said_by empty same first_word other_words board_line plain_line grid_line clock_line withdraw_line submit_line submit_behind asks said_or wrong nth
+pub says-event : (v : Event) → Wide v → ◌≡◌ {A = Line} (says (joined (words_of v))) (Ok (Some v))
+unfolding Wide words_of said_by empty same first_word other_words board_line plain_line grid_line clock_line withdraw_line submit_line submit_behind submit_numbers asks said_or wrong nth
 says-event (NewBoard W H) h =
     says-words ((ascii "board") ∷ decimal W ∷ decimal H ∷ []) (more board-word (more (a-number W) (more (a-number H) none)))
     ∙ rw (fits-decimal 65535 W (omega arith), fits-decimal 65535 H (omega arith), decimal-value W, decimal-value H)
@@ -150,7 +149,6 @@ says-event (Submit n a) h =
     (more submit-word (more (a-number n) (more (a-number a.id) (more (a-number a.w) (more (a-number a.h) (more (a-number a.e) (more (a-number a.d) none)))))))
     ∙ rw (
       planner-number n h.0,
-      ne_eqb n 256 (λ e. omega arith),
       fits-decimal 4294967295 a.id (omega arith),
       fits-decimal 65535 a.w (omega arith),
       fits-decimal 65535 a.h (omega arith),

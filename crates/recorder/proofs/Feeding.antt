@@ -12,7 +12,6 @@ use lib.ListN.{length, take, drop, set, length-append}
 use lib.Seq.{sets, sets-eq, length-sets}
 use Rattle.lists.specs.Lists.{index_of, over_front}
 use Rattle.text.specs.Digits.{Put}
-use Rattle.recorder.proofs.Reading.{part}
 use Rattle.recorder.specs.declared.Recorder.{Recorder}
 use Rattle.recorder.specs.declared.Fed.{Fed}
 use Rattle.recorder.specs.declared.Step.{Step}

@@ -8,7 +8,7 @@ use Rattle.events.specs.declared.Event.{Event}
 use Rattle.events.specs.Records.{record_of}
 use Rattle.text.specs.Output.{before}
 use Rattle.tokens.specs.Tokens.{words}
-use Rattle.std.proofs.Common.{Some, None, Ok, Err}
+use Rattle.std.proofs.Common.{Some, None, Ok}
 use Rattle.lines.specs.declared.Kind.{Kind}
 use Rattle.lines.specs.Lines.{Line, wrong_line, bare, says}
 use Rattle.recorder.specs.Recorder.{unmarked, wrong_text, made_of, line_made, made, record_lines}

@@ -1,6 +1,6 @@
 -- A line as the machine reads it: behind its mark, and its words one by one. Assumes nothing.
 use Prim.Native.Nat.{ℕ, ◌+◌, ◌-◌, ◌≤◌, ◌<◌, min}
-use mathlib.Core.Path.{◌≡◌, refl, sym, ap, ◌∙◌}
+use mathlib.Core.Path.{◌≡◌, refl, sym, ◌∙◌}
 use mathlib.Core.Bool.{Bool, true, false, cond, ◌&&◌}
 use mathlib.Core.List.{List, [], ◌∷◌}
 use native.Mathlib.Omega.{arith}
@@ -11,7 +11,7 @@ use lib.Dec.{eqb}
 use lib.ListN.{length, take, drop, get_or, length-drop}
 use lib.Pointwise.{pointwise}
 use lib.Seq.{take_all}
-use Rattle.tokens.specs.Tokens.{words, first_word, other_words, same}
+use Rattle.tokens.specs.Tokens.{first_word, other_words}
 use Rattle.tokens.proofs.Names.{same-bytes}
 use Rattle.recorder.specs.Recorder.{unmarked}
 use Rattle.recorder.specs.Machine.{added}

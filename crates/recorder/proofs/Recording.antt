@@ -14,7 +14,6 @@ use Rattle.events.proofs.Calls.{has-kind}
 use Rattle.events.proofs.Writing.{room-answer, room-buffer}
 use Rattle.recorder.proofs.Reading.{part, onward}
 use Rattle.std.proofs.Common.{Some, None, Ok, Err}
-use Rattle.lines.specs.declared.Kind.{Kind}
 use Rattle.lines.specs.Lines.{Line, says}
 use Rattle.recorder.specs.Recorder.{unmarked, made_of, line_made}
 

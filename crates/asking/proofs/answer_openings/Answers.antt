@@ -14,11 +14,11 @@ use Rattle.asking.proofs.Copies.{copies, at_front, answer-short}
 use borrow.Author.Rules.{rules}
 use Rattle.asking.proofs.answer_openings.Goals as goal
 
-pub put_bytes-used-requires : goal.put_bytes-used-requires
-put_bytes-used-requires c =
+pub put_bytes-requires : goal.put_bytes-requires
+put_bytes-requires c =
     let number_fits : Fits w8 c.openings-r.result.number = search rules in
     let short : length (answer_text c.openings-r.result.number) ≤ 18 = answer-short c.openings-r.result.number (omega (arith, number_fits)) in
-    omega (arith, short, c.put_answer-n.ensures.value, c.put_bytes-arg-1.given.0.1, length-take (c.put_answer-n.result - 0) c.put_answer-n.new.out)
+    omega (arith, short, rw c.from.ensures at c.put_answer-n.ensures.value, c.put_bytes-arg-1.given.0.1, length-take (c.put_answer-n.result - 0) c.put_answer-n.new.out)
 
 pub returns : goal.returns
 unfolding first_part
@@ -27,9 +27,9 @@ returns c =
     let short : length (answer_text c.openings-r.result.number) ≤ 18 = answer-short c.openings-r.result.number (omega (arith, number_fits)) in
     let a = c.args in
     let o = c.openings-r in
-    let e = c.put_answer-n.ensures in
+    let e = rw c.from.ensures at c.put_answer-n.ensures in
     let n : o.result.number ≡ (opened a.board a.first.task a.first.start a.first.column 0).number = ap (λ x. x.number) o.ensures.value in
-    let line = copies (answer_text o.result.number) _ e.value e.out_after c.put_bytes-used.ensures.value c.put_bytes-used.ensures.out_after in
+    let line = copies (answer_text o.result.number) _ e.value e.out_after c.put_bytes.ensures.value c.put_bytes.ensures.out_after in
     let front = at_front line (omega (arith, short, c.put_bytes-arg-1.given.0.1)) in
     record {
       answer = λ i. record { used = (front.0 ∙ ap (λ x. length (answer_text x)) n) i; page = a.first; more = eqb (n i) 0 };

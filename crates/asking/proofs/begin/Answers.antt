@@ -5,4 +5,4 @@ use Rattle.asking.proofs.begin.Goals as goal
 
 pub returns : goal.returns
 unfolding begun
-returns c = λ i. record { reader = c.begin-reader.ensures i; question = c.args.question; page = c.no_page-page.ensures i; more = false }
+returns c = λ i. record { reader = c.begin.ensures i; question = c.args.question; page = c.no_page.ensures i; more = false }

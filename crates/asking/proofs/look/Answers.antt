@@ -8,5 +8,5 @@ use Rattle.asking.proofs.look.Goals as goal
 pub returns : goal.returns
 returns c =
     let room : 5952 ≡ length c.args.words.now = search rules in
-    let all = looks c.args.board c.args.page c.least-size.result c.args.words.now c.least-size.ensures room c.openings.ensures.value c.openings.ensures.buffer_after refl in
+    let all = looks c.args.board c.args.page c.min.result c.args.words.now c.min.ensures room c.openings.ensures.value c.openings.ensures.buffer_after refl in
     record { value = all.0; words_after = all.1 }

@@ -15,11 +15,11 @@ pub put_bytes-at-requires : goal.put_bytes-at-requires
 put_bytes-at-requires c =
     let number_fits : Fits w8 c.args.number = search rules in
     let short : length (answer_text c.args.number) ≤ 18 = answer-short c.args.number (omega (arith, number_fits)) in
-    omega (arith, short, c.put_answer-n.ensures.value, length-take (c.put_answer-n.result - 0) c.put_answer-n.new.out)
+    omega (arith, short, rw c.from.ensures at c.put_answer-n.ensures.value, length-take (c.put_answer-n.result - 0) c.put_answer-n.new.out)
 
 pub put_bytes-requires : goal.put_bytes-requires
 put_bytes-requires c =
-    let line : let a = c.args in Put a.out.now 0 (answer_text a.number) c.put_bytes-at.new.out c.put_bytes-at.result = let e = c.put_answer-n.ensures in
+    let line : let a = c.args in Put a.out.now 0 (answer_text a.number) c.put_bytes-at.new.out c.put_bytes-at.result = let e = rw c.from.ensures at c.put_answer-n.ensures in
     copies (answer_text c.args.number) _ e.value e.out_after c.put_bytes-at.ensures.value c.put_bytes-at.ensures.out_after in
     let number_fits : Fits w8 c.args.number = search rules in
     let short : length (answer_text c.args.number) ≤ 18 = answer-short c.args.number (omega (arith, number_fits)) in
@@ -29,7 +29,7 @@ put_bytes-requires c =
 
 pub returns-then-number-eq0 : goal.returns-then-number-eq0
 returns-then-number-eq0 c =
-    let line : let a = c.args in Put a.out.now 0 (answer_text a.number) c.put_bytes-at.new.out c.put_bytes-at.result = let e = c.put_answer-n.ensures in
+    let line : let a = c.args in Put a.out.now 0 (answer_text a.number) c.put_bytes-at.new.out c.put_bytes-at.result = let e = rw c.from.ensures at c.put_answer-n.ensures in
     copies (answer_text c.args.number) _ e.value e.out_after c.put_bytes-at.ensures.value c.put_bytes-at.ensures.out_after in
     let number_fits : Fits w8 c.args.number = search rules in
     let short : length (answer_text c.args.number) ≤ 18 = answer-short c.args.number (omega (arith, number_fits)) in
@@ -40,7 +40,7 @@ returns-then-number-eq0 c =
 
 pub returns : goal.returns
 returns c =
-    let line : let a = c.args in Put a.out.now 0 (answer_text a.number) c.put_bytes-at.new.out c.put_bytes-at.result = let e = c.put_answer-n.ensures in
+    let line : let a = c.args in Put a.out.now 0 (answer_text a.number) c.put_bytes-at.new.out c.put_bytes-at.result = let e = rw c.from.ensures at c.put_answer-n.ensures in
     copies (answer_text c.args.number) _ e.value e.out_after c.put_bytes-at.ensures.value c.put_bytes-at.ensures.out_after in
     let number_fits : Fits w8 c.args.number = search rules in
     let short : length (answer_text c.args.number) ≤ 18 = answer-short c.args.number (omega (arith, number_fits)) in

@@ -3,9 +3,8 @@ use Prim.Native.Nat.{ℕ}
 use mathlib.Core.Path.{◌≡◌, refl, ap, ◌∙◌}
 use mathlib.Core.Bool.{true, false}
 use Rattle.std.proofs.Common.{Some, None, Ok, Err}
-use Rattle.lines.specs.Lines.{Line}
 use Rattle.recorder.specs.declared.Step.{Step}
-use Rattle.recorder.specs.Recorder.{made_of, line_made}
+use Rattle.recorder.specs.Recorder.{made_of}
 use Rattle.recorder.proofs.Recording.{made_by}
 use Rattle.recorder.proofs.put_line.Goals as goal
 
@@ -25,7 +24,7 @@ unfolding made_of
 returns-in-Ok-Some c =
     let a = c.args in
     let is : c.read.result ≡ Ok (Some c.in-Ok-Some.event) = c.in-Ok-Some.is ∙ ap Ok c.in-Ok-Some.field-0-is in
-    let p = c.put_record.ensures in
+    let p = rw c.in-Ok-Some.event-is at c.put_record.ensures in
     let step : ℕ → Step = λ n. record { used = n; said = 0; records = 1; more = true } in
     rw (made_by a.line a.records a.text.now (Ok (Some c.in-Ok-Some.event)) c.unmarked-bare.ensures c.read.ensures is) (record {
       value = ap step (rw c.in-Ok-Some.field-0-is at p.value);
