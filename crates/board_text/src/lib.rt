@@ -40,12 +40,7 @@ fn put_task(out: &mut [u8], at: usize, slot: u32, k: Task) -> usize
         k.start,
     ];
     let finish_at = text::put_spaced(out, at, &words);
-    let phase_at = text::put_ended::<10>(
-        out,
-        finish_at,
-        u64::from(k.start) + u64::from(k.e),
-        b' ',
-    );
+    let phase_at = text::put_ended::<10>(out, finish_at, u64::from(k.start) + u64::from(k.e), b' ');
     text::put_bytes(out, phase_at, phase_line(k.phase))
 }
 

@@ -1,17 +1,17 @@
 -- What `listing::close` puts: the line of a 15, and the message. Assumes nothing.
-use Prim.Native.Nat.{ℕ, suc, ◌+◌, ◌≤◌}
+use Prim.Native.Nat.{ℕ, suc, ◌≤◌}
 use mathlib.Core.Path.{◌≡◌, refl, sym, ap, ◌∙◌, subst}
 use mathlib.Core.Bool.{Bool, true, false}
 use mathlib.Core.List.{List, [], ◌∷◌, ◌++◌, append-nil}
 use native.Mathlib.Nat.{zero-add}
 use native.Mathlib.Omega.{arith}
 use lib.ListN.{length}
-use lib.Seq.{sets, length-sets}
+use lib.Seq.{length-sets}
 use Rattle.std.specs.Prelude.{None}
 use Rattle.lists.specs.Lists.{each, over_front}
 use Rattle.text.specs.Text.{ascii, decimal_in, decimal, line_text, row_text}
 use Rattle.text.specs.Digits.{Put, spaced}
-use Rattle.text.proofs.Spelling.{put_both, line-more}
+use Rattle.text.proofs.Spelling.{line-more}
 use Rattle.text.proofs.Rows.{line-rest, rows-front}
 use Rattle.answer_words.specs.AnswerWords.{answer_words}
 use Rattle.session.specs.declared.Ending.{Ending}
@@ -19,7 +19,7 @@ use Rattle.session.specs.Recording.{Line, stop_line}
 use Rattle.reader.specs.Reader.{end_of, last_lines}
 use Rattle.worded.specs.Worded.{row_of, id_text, worded_text}
 use Rattle.listing.specs.declared.Listing.{Listing}
-use Rattle.listing.specs.Listing.{listing_text, stop_text, end_text, last_text, said_text, closed}
+use Rattle.listing.specs.Listing.{listing_text, end_text, last_text, said_text, closed}
 
 pub no_lines : (w : Bool) → listing_text w [] ≡ []
 unfolding listing_text each

@@ -1,6 +1,6 @@
 -- FOR EVERY WAY TO CUT A RECORDING INTO PIECES, and every room for the text: what `plan` writes is the text of the whole. Assumes nothing.
-use Prim.Native.Nat.{ℕ, ◌+◌, ◌*◌, ◌/◌, ◌≤◌, ◌<◌}
-use mathlib.Core.Path.{◌≡◌, refl, sym, ap, ap₂, ◌∙◌, subst}
+use Prim.Native.Nat.{ℕ, ◌+◌, ◌*◌, ◌≤◌, ◌<◌}
+use mathlib.Core.Path.{◌≡◌, refl, sym, ap, ap₂, ◌∙◌}
 use mathlib.Core.Bool.{Bool, true, false, cond}
 use mathlib.Core.List.{List, [], ◌∷◌, ◌++◌, append-nil, append_assoc}
 use native.Mathlib.Omega.{arith}
@@ -10,7 +10,6 @@ use Rattle.text.specs.Output.{Output}
 use Rattle.events.specs.declared.Event.{Event}
 use Rattle.session.specs.Recording.{Line, Story, story}
 use Rattle.session.proofs.Recorded.{told}
-use Rattle.reader.specs.declared.Reader.{Reader}
 use Rattle.reader.specs.Reader.{first_reader, end_of, last_lines}
 use Rattle.reader.proofs.Cuts.{Reads, done, feed, closing, reads_whole, Sane, heard-takes}
 use Rattle.reader.proofs.Counts.{reads-number, first-number}

@@ -1,23 +1,17 @@
 -- The lines of a piece, from their numbers to their text. Assumes nothing.
 use Prim.Native.Nat.{ℕ, zero, suc, ◌+◌, ◌-◌, ◌*◌, ◌≤◌, ◌<◌, min}
-use mathlib.Core.Path.{◌≡◌, refl, sym, ap, ap₂, ◌∙◌, subst}
+use mathlib.Core.Path.{◌≡◌, refl, sym, ap, ◌∙◌, subst}
 use mathlib.Core.Bool.{Bool, true, false, cond}
 use mathlib.Core.List.{List, [], ◌∷◌, ◌++◌, append-nil, append_assoc}
-use native.Mathlib.Decide.{dec_lt, ℕ_discrete as dec_eq}
-use native.Mathlib.Nat.{zero-add}
-use native.Mathlib.Omega.{arith}
-use borrow.Author.Tests.{lt-ltb, le-ltb, eq-eqb, ne_eqb}
-use lib.Dec.{ltb, eqb}
-use lib.ListN.{length, get_or, take, drop}
-use lib.Seq.{sets, drop-drop}
-use Rattle.lists.specs.Lists.{each, over_front}
-use Rattle.text.specs.Text.{ascii, row_text, rows_text, rows_of}
-use Rattle.text.specs.Digits.{Put}
-use Rattle.text.proofs.Rows.{rows-front}
+use borrow.Author.Tests.{eq-eqb, ne_eqb}
+use lib.ListN.{length, take, drop}
+use lib.Seq.{drop-drop}
+use Rattle.lists.specs.Lists.{each}
+use Rattle.text.specs.Text.{row_text, rows_text, rows_of}
 use Rattle.events.specs.declared.Event.{Event}
 use Rattle.std.specs.Prelude.{Ok, Err, Some, None}
 use Rattle.events.specs.declared.ReadError.TheVariants.{CutShort, Unknown}
-use Rattle.events.specs.Records.{Reading, id_of, read_from}
+use Rattle.events.specs.Records.{Reading, read_from}
 use Rattle.board.specs.Answers.{Told}
 use Rattle.steps.specs.declared.State.{State}
 use Rattle.session.specs.Recording.{Line, line_of, stop_line, outcome, Run, still, ran_from, room_for, line_numbers}
@@ -27,7 +21,7 @@ use Rattle.worded.specs.Rows.{worded_row, id_read, size_read, worded_rows}
 use Rattle.reader.specs.declared.Reader.{Reader}
 use Rattle.reader.specs.Reader.{held_of, Heard, source_of, meets_stranger, heard_over, heard}
 use Rattle.reader.proofs.Cases.{over_by, heard-by}
-use Rattle.listing.specs.Listing.{header_text, listing_text}
+use Rattle.listing.specs.Listing.{listing_text}
 use Rattle.listing.specs.Code.{text_of}
 
 -- where nothing is held, a piece is read by itself

@@ -155,14 +155,7 @@ fn put_stop(err: &mut [u8; 128], number: u32, kind: u8, tail: &[u8]) -> usize
     ensures put { Put err.old 0 (stop_text number kind tail.now) err.new result }
     ensures upper_bound { result ≤ length err.new }
 {
-    text::put_event(
-        err,
-        0,
-        b"plan: event ",
-        u64::from(number) + 1,
-        kind,
-        tail,
-    )
+    text::put_event(err, 0, b"plan: event ", u64::from(number) + 1, kind, tail)
 }
 
 // "a message on standard error after 15, 16 and the billionth event"

@@ -36,6 +36,8 @@ pub fn put_number<const MOST: usize>(out: &mut [u8], at: usize, x: u64) -> usize
 }
 
 // Given bytes from a place of the buffer on; the place after them.
+// Stays: a buffer and a place in it side by side. A struct of both was tried (a pen, with `&mut self` methods): where the lender is
+// itself a slice, as in `put_table` and `listing::feed`, no proof knows what the buffer holds after a call that takes the struct.
 pub fn put_bytes(out: &mut [u8], at: usize, bytes: &[u8]) -> usize
     requires { at + length bytes.now ≤ length out.old }
     ensures put { Put out.old at bytes.now out.new result }

@@ -1,6 +1,6 @@
 -- `board_text::put_answer` meets its contract: the word, a space and the number. Assumes nothing.
 use mathlib.Core.Path.{◌∙◌}
-use mathlib.Core.List.{[], ◌∷◌}
+use mathlib.Core.List.{[]}
 use native.Mathlib.Omega.{arith}
 use native.Mathlib.Nat.{zero-add}
 use Rattle.text.specs.Text.{ascii, decimal}

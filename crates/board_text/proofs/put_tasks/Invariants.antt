@@ -9,4 +9,3 @@ use Rattle.board_text.proofs.put_tasks.Given as goal
 abbrev pub invariant-loop-i : goal.invariant-loop-i
 invariant-loop-i l =
     (length l.tasks ≡ 64) × (length l.shown ≡ 64) × (l.place ≤ l.at + l.i * 117) × Put l.initial.out l.at (tasks_text 1 (take l.i l.tasks) (take l.i l.shown)) l.out l.place
-

@@ -1,10 +1,10 @@
 -- `listing::put_lines` meets its contract: plain lines, and lines in words by the bytes of their events. Assumes nothing.
-use Prim.Native.Nat.{◌-◌, min}
+use Prim.Native.Nat.{min}
 use mathlib.Core.Path.{◌≡◌, sym, ap, ◌∙◌}
 use mathlib.Core.Bool.{true, false}
 use native.Mathlib.Omega.{arith}
 use borrow.Author.Tests.{not-true, not-false}
-use lib.ListN.{length, take, length-take}
+use lib.ListN.{length, length-take}
 use Rattle.lists.specs.Lists.{over_front}
 use Rattle.worded.specs.Rows.{worded_rows}
 use Rattle.reader.specs.Reader.{held_of}
