@@ -38,6 +38,7 @@ struct Move {
 // The clock to a task's arrival, and the task to a planner.
 fn played(rt: &impl Print, board: Board, planner: u8, id: u32, row: [u32; 5]) -> io::Result<Move> {
     let [arrival, e, d, w, h] = row;
+    // Stays: a row is five numbers of 32 bits, and u16::try_from would add a refusal that never comes.
     let a = Submission {
         id,
         e,

@@ -83,6 +83,7 @@ pub fn arguments(rt: &impl Env) -> usize {
 }
 
 // Puts an argument at the front of a page; how many bytes it has, 0 where it is not there or there is no room for it.
+// Stays: no byte names no file, as in an argument of no byte (`orders::is_option`), so an Option would say it twice.
 fn put_argument(rt: &impl Env, i: usize, bytes: &mut [u8]) -> usize
     ensures { result ≤ length bytes.new }
 {
@@ -123,6 +124,7 @@ pub enum Source {
 
 // Where a piece of the input stands: from `from` to `to` it is still to be taken. `more`: the input has not ended. `failed`: it
 // could not be read to its end.
+// Stays: an enum of the three ways would be no plainer, since the programs ask for one of the two flags at a time.
 #[derive(Drop)]
 pub struct Input {
     pub source: Source,
