@@ -35,6 +35,7 @@ pub struct Standing {
 }
 
 // The sums so far, the bytes of a summary that has begun, the first `size` of them, and where the machine stands.
+// Stays: the project has no heap, so the held bytes lie in a buffer with their number beside it.
 #[derive(Clone, Copy)]
 pub struct Adding {
     pub total: [u64; 83],

@@ -26,6 +26,7 @@ pub struct Board {
 }
 
 // "A submission is answered by one of three: a place, a rejection, or a refusal."
+// Stays: "Refused with its number" is the form that document 01 names, here and as `number` below.
 #[derive(Clone, Copy)]
 pub enum Answer {
     Rejected,

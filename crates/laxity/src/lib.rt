@@ -22,6 +22,7 @@ pub fn is_too_large(arrival: u32, e: u32, d: u32) -> bool
 }
 
 // A, B, C and Other as 0 to 3: how many of the classes it is past, without a branch, which a processor would guess wrong.
+// Stays: a number and no enum, since it is the row of the class among a planner's four (`figures`), and counted.
 pub fn class_of(laxity: u32) -> u8
     ensures { result ≡ class_of laxity }
 {

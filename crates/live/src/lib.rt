@@ -115,6 +115,7 @@ pub fn without_slot(used: u64, slot: u32) -> u64
 }
 
 // The lowest slot that is not in use, or 64.
+// Stays: 64 and no Option, since that is what the callers compare: a free slot is one below the 64 of a board.
 pub fn lowest_free(used: u64) -> u32
     ensures { Least (λ (j : ℕ). not (bit used j)) 0 64 result }
 {

@@ -11,6 +11,7 @@ use live::{Live, Masks};
 use planners::{Place, Window};
 
 // The place that the named planner finds among the live tasks. Reference is the search with no time after now.
+// Stays: the planner's number of document 01, as the public call is told it and the definition `planned` reads it.
 pub fn find<'a>(
     planner: u8,
     live: &'a Live,

@@ -14,6 +14,7 @@ use steps::State;
 
 // Where the reader stands: the state that follows the events so far, the begin of a record whose end has not come, and whether
 // and how the recording has ended.
+// Stays: the project has no heap, so the held bytes lie in a buffer with their number beside it.
 #[derive(Clone, Copy)]
 pub struct Reader {
     pub state: State,

@@ -16,6 +16,7 @@ use lines::{Kind, Wrong};
 
 // Where the machine stands: the number of the line that it reads, the records so far, how many bytes of the line are held,
 // whether it goes on.
+// Stays: the project has no heap, so the line's bytes lie in a buffer that is lent, with their number here.
 #[derive(Clone, Copy)]
 pub struct Recorder {
     pub line: u64,

@@ -14,6 +14,8 @@ use planners::{Place, Window};
 
 // The search. With `whole` it is Full; without, the left edges of the free intervals are tried, as Stuffing does, and Reference is that
 // with no time after now.
+// Stays: a flag, since the clause says what each of the two finds; a closure for the column that is taken would have to bring the same
+// two clauses along.
 pub fn find<'a>(
     live: &'a Live,
     masks: &'a Masks,

@@ -49,6 +49,7 @@ pub enum Change {
 }
 
 // What an event did: document 01's number and values, the board in brief that follows, and what changed in the slots.
+// Stays: the number as document 01 has it, and zeros where there is no place: they are the words of the event's line.
 #[derive(Clone, Copy)]
 pub struct Done {
     pub number: u8,

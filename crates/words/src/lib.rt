@@ -32,7 +32,8 @@ pub fn share(low: u32, first: u32, past: u32) -> u64
 }
 
 // The columns from `first` up to, not including, `past` set too, by two shifts a word.
-// Stays: four words in a row, here and in `inverted`: a loop or a `map` over them says it no plainer.
+// Stays: four words in a row, here and in `inverted`: a `map` was tried there, and the proof did not close, as a clause tells each
+// word of a map through its closure, and the law of columns is about four words.
 pub fn marked(words: [u64; 4], first: u32, past: u32) -> [u64; 4]
     ensures { (c : ℕ) → 1 ≤ c → c ≤ 256 → column result c ≡ (column words c || (leb first c && ltb c past)) }
 {
@@ -52,6 +53,7 @@ pub fn count(words: [u64; 4]) -> u32
 }
 
 // The least digit from `from` on that is set, or 64.
+// Stays: 64 and no Option, since `live::lowest_free` hands it on.
 pub fn next_in(word: u64, from: u32) -> u32
     requires { from < 64 }
     ensures { Least (bit word) from 64 result }

@@ -13,7 +13,7 @@ pub returns : goal.returns
 returns c =
     let a = c.args in
     let e : ◌≡◌ {A = Written} (Ok c.unwrap.result) (Ok (length (record_of a.event))) =
-        sym c.unwrap.ensures ∙ put-length a.event a.out.now a.used c.requires c.write.ensures.value in
+    sym c.unwrap.ensures ∙ put-length a.event a.out.now a.used c.requires c.write.ensures.value in
     record {
       value = cc;
       out_after = put-stored a.event a.out.now a.used c.requires c.write.ensures.buffer_after;
