@@ -49,7 +49,7 @@ pub fn is_name(word: &[u8], name: &[u8]) -> bool
 fn is_digit(b: u8) -> bool
     ensures { result ≡ digit b }
 {
-    (48 <= b) & (b <= 57)
+    b.is_ascii_digit()
 }
 
 // A word as a number that is at most so large. Wide, so that no step can wrap.
