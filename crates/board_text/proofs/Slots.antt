@@ -6,11 +6,16 @@ use mathlib.Core.List.{List, [], ◌∷◌, ◌++◌, append-nil, append_assoc}
 use native.Mathlib.Omega.{arith}
 use native.Mathlib.Numerals.{add-one}
 use lib.ListN.{length, take, get_or}
+use lib.Seq.{sets}
 use Rattle.tasks.specs.declared.Task.{Task}
 use Rattle.tasks.specs.Tasks.{live, free_slot}
 use Rattle.text.specs.Digits.{Put}
 use Rattle.text.proofs.Spelling.{put_both}
 use Rattle.board_text.specs.BoardText.{task_text, tasks_text}
+
+-- a text that was put is known under another name
+pub put_as : {l m : List ℕ} {at p : ℕ} (xs ys : List ℕ) → xs ≡ ys → p ≡ at + length xs → m ≡ sets l at xs → Put l at ys m p
+put_as {l} {m} {at} {p} xs ys e place stored = record { stored = stored ∙ ap (sets l at) e; place = place ∙ ap (λ t. at + length t) e }
 
 -- the text of one slot
 abbrev slot_text : ℕ → Task → Task → List ℕ

@@ -27,8 +27,8 @@ returns-in-Ok-Some c =
     let p = rw c.in-Ok-Some.event-is at c.put_record.ensures in
     let step : ℕ → Step = λ n. record { used = n; said = 0; records = 1; more = true } in
     rw (made_by a.line a.records a.text.now (Ok (Some c.in-Ok-Some.event)) c.unmarked-bare.ensures c.read.ensures is) (record {
-      value = ap step (rw c.in-Ok-Some.field-0-is at p.value);
-      out_after = rw c.in-Ok-Some.field-0-is at p.out_after;
+      value = ap step p.value;
+      out_after = p.out_after;
       err_after = refl;
     })
 
