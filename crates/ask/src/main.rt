@@ -37,7 +37,7 @@ fn run(rt: &HostRuntime) -> io::Result<()> {
     let mut done = system::write(rt, b"ask: ", &piece[..end.used], &err[..end.said])?;
     a = end.asking;
     for _ in 0..u64::MAX {
-        if !(done & a.more) {
+        if !(done & a.page.is_some()) {
             break;
         }
         let part = asking::next(a, &mut piece);

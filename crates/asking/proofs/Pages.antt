@@ -9,6 +9,7 @@ use borrow.Author.Tests.{lt-ltb, le-ltb, le-leb, lt-leb}
 use lib.Dec.{ltb, leb}
 use lib.ListN.{length, take, drop, get_or, length-take, length-drop, length-append, take-append-drop}
 use lib.Seq.{take_all, take-append-add, length-take-le}
+use Rattle.std.proofs.Common.{Some}
 use Rattle.lists.specs.Lists.{last_or, over_front, each}
 use Rattle.ways.specs.Ways.{pair}
 use Rattle.planners.specs.Openings.{Place, pair_numbers}
@@ -154,15 +155,13 @@ module _ (b : Board) (p : Page) (r : Opened) (words lent : List ℕ)
         → Said (turned b p)
         (record {
           used = n;
-          page = record { task = p.task; start = get_or words (2 * r.count - 2) 0; column = get_or words (2 * r.count - 1) 0; left = p.left - 2976 };
-          more = true;
+          page = Some (record { task = p.task; start = get_or words (2 * r.count - 2) 0; column = get_or words (2 * r.count - 1) 0; left = p.left - 2976 });
         }) l out
     unfolding turned
     turns-on {l} {out} {n} h f = rw (not_last p.left from goes-past.0 goes-past.1) record {
       answer = λ i. record {
         used = (h ∙ ap length text) i;
-        page = record { task = p.task; start = (at 5950 first ∙ last.0) i; column = (at 5951 second ∙ last.1) i; left = p.left - 2976 };
-        more = true;
+        page = Some (record { task = p.task; start = (at 5950 first ∙ last.0) i; column = (at 5951 second ∙ last.1) i; left = p.left - 2976 });
       };
       text = f ∙ ap (λ x. over_front x l) text;
     }

@@ -5,15 +5,17 @@ use mathlib.Core.Bool.{true, false}
 use mathlib.Core.List.{List, []}
 use native.Mathlib.Omega.{arith}
 use lib.ListN.{length, drop, length-append}
+use Rattle.std.proofs.Common.{None, Some}
 use Rattle.lists.specs.Lists.{over_front}
 use Rattle.session.specs.declared.Ending.{Ending}
 use Rattle.reader.specs.declared.Reader.{Reader}
 use Rattle.reader.specs.declared.Fed as Read
 use Rattle.reader.specs.Reader.{fed, end_of}
+use Rattle.asking.specs.declared.Page.{Page}
 use Rattle.asking.specs.declared.Part.{Part}
 use Rattle.asking.specs.declared.Asking.{Asking}
 use Rattle.asking.specs.Asking.{whole?, end_text}
-use Rattle.asking.specs.Machine.{Piece, alone, first_part, turned, as_part, Said, next_event, closing_part, closing, closed, next_part, went}
+use Rattle.asking.specs.Machine.{Piece, alone, first_part, turned, as_part, Said, next_event, closing_part, closing, closed, paged, next_part, went}
 use Rattle.asking.proofs.Counted.{heard-inside}
 
 -- a text at the front lies in its buffer
@@ -38,12 +40,12 @@ module _ (a : Asking) where
   -- CLOSE
   pub closes : {end : Ending} {event said : ℕ} {part : Part} {l out err : List ℕ} (m : List ℕ) → end ≡ end_of a.reader → event ≡ next_event a.reader.number
       → (said ≡ length (end_text event end)) × (err ≡ over_front (end_text event end) m) → Said (closing_part a end) part l out
-      → (record { asking = record { reader = a.reader; question = a.question; page = part.page; more = part.more }; used = part.used; said = said } ≡ closed a)
+      → (record { asking = record { reader = a.reader; question = a.question; page = part.page }; used = part.used; said = said } ≡ closed a)
       × ((out ≡ over_front (closing a).out l) × ((err ≡ over_front (closing a).err m) × ((part.used ≤ length out) × (said ≤ length err))))
   unfolding closed closing
   closes {end} {event} {said} {part} {l} m e n t s = (
     λ i. record {
-      asking = record { reader = a.reader; question = a.question; page = (told i).page; more = (told i).more };
+      asking = record { reader = a.reader; question = a.question; page = (told i).page };
       used = (told i).used;
       said = (t.0 ∙ ap length text) i;
     },
@@ -60,28 +62,28 @@ module _ (a : Asking) where
       told = s.answer ∙ ap (λ x. as_part (closing_part a x)) e
 
   -- NEXT
-  pub next-none : a.more ≡ false → next_part a ≡ record { text = []; page = a.page; more = false }
-  unfolding next_part
+  pub next-none : a.page ≡ None → next_part a ≡ alone []
+  unfolding next_part paged
   next-none e = rw e
 
-  pub next-page : a.more ≡ true → next_part a ≡ turned a.reader.state.board a.page
-  unfolding next_part
+  pub next-page : {p : Page} → a.page ≡ Some p → next_part a ≡ turned a.reader.state.board p
+  unfolding next_part paged
   next-page e = rw e
 
-  pub rests : a.more ≡ false → (l : List ℕ) → (record { asking = a; used = 0 } ≡ went a) × ((l ≡ over_front (next_part a).text l) × (0 ≤ length l))
+  pub rests : a.page ≡ None → (l : List ℕ) → (record { asking = a; used = 0 } ≡ went a) × ((l ≡ over_front (next_part a).text l) × (0 ≤ length l))
   unfolding went
   rests e l = (
-    (λ i. record { asking = record { reader = a.reader; question = a.question; page = a.page; more = e i }; used = 0 })
-        ∙ ap (λ (p : Piece). record { asking = record { reader = a.reader; question = a.question; page = p.page; more = p.more }; used = length p.text }) (sym (next-none e)),
+    (λ i. record { asking = record { reader = a.reader; question = a.question; page = e i }; used = 0 })
+        ∙ ap (λ (p : Piece). record { asking = record { reader = a.reader; question = a.question; page = p.page }; used = length p.text }) (sym (next-none e)),
     (ap (λ (p : Piece). over_front p.text l) (sym (next-none e)), omega arith),
   )
 
-  pub goes : a.more ≡ true → {part : Part} {l out : List ℕ} → Said (turned a.reader.state.board a.page) part l out
-      → (record { asking = record { reader = a.reader; question = a.question; page = part.page; more = part.more }; used = part.used } ≡ went a)
+  pub goes : {p : Page} → a.page ≡ Some p → {part : Part} {l out : List ℕ} → Said (turned a.reader.state.board p) part l out
+      → (record { asking = record { reader = a.reader; question = a.question; page = part.page }; used = part.used } ≡ went a)
       × ((out ≡ over_front (next_part a).text l) × (part.used ≤ length out))
   unfolding went
-  goes e {part} {l} s =
+  goes {p} e {part} {l} s =
       let told : part ≡ as_part (next_part a) = s.answer ∙ ap as_part (sym (next-page e)) in (
-        ap (λ (p : Part). record { asking = record { reader = a.reader; question = a.question; page = p.page; more = p.more }; used = p.used }) told,
-        (s.text ∙ ap (λ (p : Piece). over_front p.text l) (sym (next-page e)), front_fits (turned a.reader.state.board a.page).text l (ap (λ x. x.used) s.answer) s.text),
+        ap (λ (r : Part). record { asking = record { reader = a.reader; question = a.question; page = r.page }; used = r.used }) told,
+        (s.text ∙ ap (λ (x : Piece). over_front x.text l) (sym (next-page e)), front_fits (turned a.reader.state.board p).text l (ap (λ x. x.used) s.answer) s.text),
       )

@@ -1,5 +1,6 @@
 -- The program `ask` call by call: what each writes, and where it leaves the program standing. Assumes nothing.
-use Rattle.std.specs.Prelude.{ℕ, suc, Option, Some, None, ◌-◌, min, ◌≡◌, Bool, true, false, cond, ◌||◌, List, [], leb, eqb, length, take}
+use Rattle.std.specs.Prelude.{ℕ, suc, Option, Some, None, ◌-◌, min, ◌≡◌, Bool, cond, ◌||◌, List, [], leb, eqb, length, take}
+use Rattle.std.specs.Bool.{then_some}
 use Rattle.lists.specs.Lists.{last_or, over_front}
 use Rattle.ways.specs.Ways.{pair}
 use Rattle.planners.specs.Openings.{Place}
@@ -24,16 +25,11 @@ use Rattle.asking.specs.Asking.{places_text, openings_text, answered, whole?, en
 -- a part of the answer: its text, and the page of openings that follows it, if one does
 pub record Piece : Type 0 where
   pub text : List ℕ
-  pub page : Page
-  pub more : Bool
-
--- no page
-abbrev pub no_page : Page
-no_page = record { task = record { id = 0; e = 0; d = 0; w = 0; h = 0 }; start = 0; column = 0; left = 0 }
+  pub page : Option Page
 
 -- nothing follows
 abbrev pub alone : List ℕ → Piece
-alone text = record { text = text; page = no_page; more = false }
+alone text = record { text = text; page = None }
 
 -- THE FIRST PART: all of the answer; of openings the line `answer N`, and their pages follow if N is 0
 unfoldable pub first_part : Option Question → Board → Piece
@@ -42,7 +38,7 @@ first_part (Some Asked.Horizon) b = alone (answered (Some Asked.Horizon) b)
 first_part (Some (Asked.Busy i)) b = alone (answered (Some (Asked.Busy i)) b)
 first_part (Some (Asked.Openings a s c most)) b =
     let number = (opened b a s c 0).number in
-    record { text = answer_text number; page = record { task = a; start = s; column = c; left = most }; more = eqb number 0 }
+    record { text = answer_text number; page = then_some (eqb number 0) (record { task = a; start = s; column = c; left = most }) }
 first_part (Some Asked.Board) b = alone (answered (Some Asked.Board) b)
 first_part (Some (Asked.Stamp i)) b = alone (answered (Some (Asked.Stamp i)) b)
 
@@ -69,15 +65,15 @@ unfoldable pub turned : Board → Page → Piece
 turned b p =
     let ps = left_to b p in
     cond (last_page? p.left ps) (alone (openings_text p.left ps))
-    record { text = places_text (take page_rows ps); page = page_after p (take page_rows ps); more = true }
+    record { text = places_text (take page_rows ps); page = Some (page_after p (take page_rows ps)) }
 
 -- the code answers with a part's length, and its text stands at the front of the lent buffer
 abbrev pub as_part : Piece → Part
-as_part p = record { used = length p.text; page = p.page; more = p.more }
+as_part p = record { used = length p.text; page = p.page }
 
 -- the part of which nothing follows
 abbrev pub whole_part : ℕ → Part
-whole_part n = record { used = n; page = no_page; more = false }
+whole_part n = record { used = n; page = None }
 
 pub record Said (p : Piece) (r : Part) (lent out : List ℕ) : Type 0 where
   pub answer : r ≡ as_part p
@@ -85,7 +81,7 @@ pub record Said (p : Piece) (r : Part) (lent out : List ℕ) : Type 0 where
 
 -- BEGIN
 unfoldable pub begun : Option Question → Asking
-begun q = record { reader = first_reader; question = q; page = no_page; more = false }
+begun q = record { reader = first_reader; question = q; page = None }
 
 -- room for the words of 992 lines, which nobody reads
 abbrev pub line_words : ℕ
@@ -95,7 +91,7 @@ line_words = 5952
 unfoldable pub fed_with : Asking → List ℕ → Fed
 fed_with a piece =
     let f = fed a.reader piece line_words in
-    record { asking = record { reader = f.reader; question = a.question; page = a.page; more = a.more }; taken = f.taken }
+    record { asking = record { reader = f.reader; question = a.question; page = a.page }; taken = f.taken }
 
 -- the number of the next event; there is none past the last that may be
 abbrev pub next_event : ℕ → ℕ
@@ -113,16 +109,20 @@ unfoldable pub closed : Asking → Closed
 closed a =
     let p = closing_part a (end_of a.reader) in
     record {
-      asking = record { reader = a.reader; question = a.question; page = p.page; more = p.more };
+      asking = record { reader = a.reader; question = a.question; page = p.page };
       used = length p.text;
       said = length (closing a).err;
     }
 
 -- NEXT: a page more, where one follows
+unfoldable pub paged : Board → Option Page → Piece
+paged b None = alone []
+paged b (Some p) = turned b p
+
 unfoldable pub next_part : Asking → Piece
-next_part a = cond a.more (turned a.reader.state.board a.page) record { text = []; page = a.page; more = false }
+next_part a = paged a.reader.state.board a.page
 
 unfoldable pub went : Asking → Went
 went a =
     let p = next_part a in
-    record { asking = record { reader = a.reader; question = a.question; page = p.page; more = p.more }; used = length p.text }
+    record { asking = record { reader = a.reader; question = a.question; page = p.page }; used = length p.text }

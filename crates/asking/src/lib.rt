@@ -9,7 +9,7 @@ ghost use Rattle.board.specs.Calls.{opened};
 ghost use Rattle.questions.specs.declared.Question.TheVariants.{Horizon, Busy, Board as TheBoard, Stamp, Openings};
 ghost use Rattle.board_text.specs.BoardText.{halt_text};
 ghost use Rattle.asking.specs.Asking.{replied, last_row, unsoundness, answered, whole?, end_text};
-ghost use Rattle.asking.specs.Machine.{no_page, first_part, page_rows, left_to, turned, whole_part, Said, begun, fed_with, next_event, closing_part, closing, closed, next_part, went};
+ghost use Rattle.asking.specs.Machine.{first_part, page_rows, left_to, turned, whole_part, Said, begun, fed_with, next_event, closing_part, closing, closed, next_part, went};
 
 use board::{Board, Opened};
 use questions::Question;
@@ -26,13 +26,12 @@ pub struct Page {
     pub left: u32,
 }
 
-// Where the program stands; `more` is true where a further part of the answer waits. Where nothing is asked, nothing is answered.
+// Where the program stands, and the page that follows where a further part of the answer waits. Where nothing is asked, nothing is answered.
 #[derive(Clone, Copy)]
 pub struct Asking {
     pub reader: Reader,
     pub question: Option<Question>,
-    pub page: Page,
-    pub more: bool,
+    pub page: Option<Page>,
 }
 
 // How much of a piece was taken.
@@ -56,33 +55,15 @@ pub struct Went {
     pub used: usize,
 }
 
-// A part of the answer: its bytes, and the page that follows.
+// A part of the answer: its bytes, and the page that follows, if one does.
 #[derive(Clone, Copy)]
 struct Part {
     used: usize,
-    page: Page,
-    more: bool,
+    page: Option<Page>,
 }
 
 // How many rows a page has at most.
 const PAGE: u32 = 2976;
-
-fn no_page() -> Page
-    ensures { result ≡ no_page }
-{
-    Page {
-        task: Submission {
-            id: 0,
-            w: 0,
-            h: 0,
-            e: 0,
-            d: 0,
-        },
-        start: 0,
-        column: 0,
-        left: 0,
-    }
-}
 
 pub fn begin(question: Option<Question>) -> Asking
     ensures { result ≡ begun question }
@@ -90,8 +71,7 @@ pub fn begin(question: Option<Question>) -> Asking
     Asking {
         reader: reader::begin(),
         question,
-        page: no_page(),
-        more: false,
+        page: None,
     }
 }
 
@@ -196,8 +176,7 @@ fn answer_openings(board: Board, first: Page, out: &mut [u8; 65536]) -> Part
     let n = board_text::put_answer(&mut line, u32::from(r.number));
     Part {
         used: text::put_bytes(out, 0, &line[0..n]),
-        page: first,
-        more: r.number == 0,
+        page: (r.number == 0).then_some(first),
     }
 }
 
@@ -205,11 +184,7 @@ fn answer_openings(board: Board, first: Page, out: &mut [u8; 65536]) -> Part
 fn whole(used: usize) -> Part
     ensures { result ≡ whole_part used }
 {
-    Part {
-        used,
-        page: no_page(),
-        more: false,
-    }
+    Part { used, page: None }
 }
 
 // THE FIRST PART of the answer.
@@ -276,13 +251,12 @@ fn turn(board: Board, page: Page, out: &mut [u8; 65536]) -> Part
     }
     Part {
         used: n,
-        page: Page {
+        page: Some(Page {
             start: words[2 * count - 2],
             column: words[2 * count - 1],
             left: page.left - PAGE,
             ..page
-        },
-        more: true,
+        }),
     }
 }
 
@@ -351,7 +325,6 @@ pub fn close(a: Asking, out: &mut [u8; 65536], err: &mut [u8; 512]) -> Closed
     Closed {
         asking: Asking {
             page: part.page,
-            more: part.more,
             ..a
         },
         used: part.used,
@@ -365,14 +338,13 @@ pub fn next(a: Asking, out: &mut [u8; 65536]) -> Went
     ensures out_after { out.new ≡ over_front (next_part a).text out.old }
     ensures used_in_bounds { result.used ≤ length out.new }
 {
-    if !a.more {
+    let Some(page) = a.page else {
         return Went { asking: a, used: 0 };
-    }
-    let part = turn(a.reader.state.board, a.page, out);
+    };
+    let part = turn(a.reader.state.board, page, out);
     Went {
         asking: Asking {
             page: part.page,
-            more: part.more,
             ..a
         },
         used: part.used,

@@ -7,10 +7,10 @@ use Rattle.worded.specs.Worded.{row_of, worded_text}
 use Rattle.session.specs.declared.Ending.{Ending}
 use Rattle.session.specs.declared.Ending.TheVariants.{NotYet, AtEnd, In15, In16, AtLast, PastLast}
 use Rattle.session.specs.Recording.{Line, story}
+use Rattle.reader.specs.declared.Closed.{Closed}
 use Rattle.reader.specs.Reader.{Heard, first_reader, heard, end_of, last_lines}
 use Rattle.listing.specs.declared.Listing.{Listing}
 use Rattle.listing.specs.declared.Listed.{Listed}
-use Rattle.listing.specs.declared.Closed.{Closed}
 
 -- "prints a header": `--words` adds the id and the answer in words
 unfoldable pub header_text : Bool → List ℕ

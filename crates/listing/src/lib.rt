@@ -9,7 +9,7 @@ ghost use Rattle.reader.specs.Reader.{source_of, open?, last_lines};
 ghost use Rattle.listing.specs.Code.{text_of};
 ghost use Rattle.listing.specs.Listing.{header_text, listing_text, stop_text, end_text, first_listing, lines_in, listed, listed_text, last_text, said_text, closed};
 
-use reader::Reader;
+use reader::{Closed, Reader};
 use session::Ending;
 
 // Where the program stands: the reader, and whether the answers are told in words.
@@ -25,13 +25,6 @@ pub struct Listed {
     pub listing: Listing,
     pub taken: usize,
     pub used: usize,
-}
-
-// How many bytes are left for standard output and for standard error at the end.
-#[derive(Clone, Copy)]
-pub struct Closed {
-    pub used: usize,
-    pub said: usize,
 }
 
 pub fn begin(words: bool) -> Listing

@@ -32,6 +32,13 @@ pub struct Fed {
     pub count: usize,
 }
 
+// How many bytes a program writes to standard output, and to standard error, where the recording has ended.
+#[derive(Clone, Copy)]
+pub struct Closed {
+    pub used: usize,
+    pub said: usize,
+}
+
 pub fn begin() -> Reader
     ensures { result ≡ first_reader }
 {

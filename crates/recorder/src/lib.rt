@@ -35,6 +35,7 @@ pub struct Fed {
 }
 
 // What a line of each kind has at a word.
+// Stays: four tables of texts with no proof of their own; one function handed the texts of two kinds is no plainer.
 #[tactic(auto, unfolding(crate::specs::Recorder::board_wants))]
 fn board_wants(word: usize) -> &'static [u8]
     ensures wants { result.now ≡ board_wants word }

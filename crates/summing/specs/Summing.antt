@@ -1,6 +1,7 @@
 -- The machine of `summary`: where it stands between two pieces, and what a piece adds. Assumes nothing.
 use Rattle.std.specs.Prelude.{ℕ, ◌-◌, List, [], ◌++◌, length}
 use Rattle.sheets.specs.Sheets.{plus, wrapped, sheet_text}
+use Rattle.reader.specs.declared.Closed.{Closed}
 use Rattle.reader.specs.declared.Reader.{Reader}
 use Rattle.reader.specs.Reader.{Heard, first_reader, heard, end_of}
 use Rattle.stops.specs.Stops.{stop_words, stop_said}
@@ -8,7 +9,6 @@ use Rattle.session.specs.declared.Ending.{Ending}
 use Rattle.figures.specs.Figures.{trials_from, sheet_of}
 use Rattle.summing.specs.declared.Summing.{Summing}
 use Rattle.summing.specs.declared.Summed.{Summed}
-use Rattle.summing.specs.declared.Closed.{Closed}
 
 -- no file yet
 unfoldable pub first_summing : Summing

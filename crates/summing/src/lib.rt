@@ -13,7 +13,7 @@ ghost use Rattle.summing.specs.Summary.{whole?};
 ghost use Rattle.summing.specs.Summing.{first_summing, reader_at, next_file, summed, file_end, sum_text, sum_said, closed};
 
 use batches::Name;
-use reader::Reader;
+use reader::{Closed, Reader};
 use session::Ending;
 
 // Where the summary stands: the reader of the file at hand, the figures so far, and how many events the files before it had.
@@ -29,13 +29,6 @@ pub struct Summing {
 pub struct Summed {
     pub summing: Summing,
     pub taken: usize,
-}
-
-// How many bytes are written to standard output and to standard error at the end.
-#[derive(Clone, Copy)]
-pub struct Closed {
-    pub used: usize,
-    pub said: usize,
 }
 
 pub fn begin() -> Summing

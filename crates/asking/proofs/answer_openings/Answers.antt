@@ -4,6 +4,7 @@ use mathlib.Core.Path.{◌≡◌, ap, ◌∙◌}
 use native.Mathlib.Omega.{arith}
 use lib.ListN.{length, length-take}
 use lib.Dec.{eqb}
+use Rattle.std.specs.Bool.{then_some}
 use Rattle.lists.specs.Lists.{over_front}
 use Rattle.board.specs.Calls.{opened}
 use Rattle.board_text.specs.BoardText.{answer_text}
@@ -32,6 +33,6 @@ returns c =
     let line = copies (answer_text o.result.number) _ e.value e.out_after c.put_bytes.ensures.value c.put_bytes.ensures.out_after in
     let front = at_front line (omega (arith, short, c.put_bytes-arg-1.given.0.1)) in
     record {
-      answer = λ i. record { used = (front.0 ∙ ap (λ x. length (answer_text x)) n) i; page = a.first; more = eqb (n i) 0 };
+      answer = λ i. record { used = (front.0 ∙ ap (λ x. length (answer_text x)) n) i; page = (c.then_some.ensures ∙ ap (λ k. then_some (eqb k 0) a.first) n) i };
       text = front.1 ∙ ap (λ x. over_front (answer_text x) a.out.now) n;
     }

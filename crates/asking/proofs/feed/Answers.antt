@@ -9,6 +9,6 @@ unfolding fed_with
 returns c =
     let s = c.args in
     let e = c.feed-f.ensures.value in record {
-      value = ap (λ f. record { asking = record { reader = f.reader; question = s.a.question; page = s.a.page; more = s.a.more }; taken = f.taken }) e;
+      value = ap (λ f. record { asking = record { reader = f.reader; question = s.a.question; page = s.a.page }; taken = f.taken }) e;
       taken_in_bounds = fed-inside s.a.reader s.piece.now line_words e;
     }
