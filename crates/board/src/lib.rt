@@ -198,7 +198,7 @@ impl Board {
         ensures answer_value { told result.answer ≡ told (submitted self planner a).answer }
     {
         let mut live = [0u32; 384];
-        let Some(v) = soundness::test(self.device, self.now, self.tasks, &mut live) else {
+        let Ok(v) = soundness::test(self.device, self.now, self.tasks, &mut live) else {
             return Submitted {
                 answer: Answer::Refused(u8::from(Refusal::Unsound)),
                 board: self,
@@ -306,7 +306,7 @@ impl Board {
         let mut live = [0u32; 384];
         let mut masks = [0u64; 256];
         let stood = soundness::stand(self.device, self.now, self.tasks, &mut live, &mut masks);
-        let Some(v) = stood else {
+        let Ok(v) = stood else {
             return Opened {
                 number: u8::from(Refusal::Unsound),
                 count: 0,
@@ -346,7 +346,7 @@ impl Board {
         ensures buffer_after { buffer.new ≡ listed_buffer self buffer.old }
     {
         let mut live = [0u32; 384];
-        let Some(v) = soundness::test(self.device, self.now, self.tasks, &mut live) else {
+        let Ok(v) = soundness::test(self.device, self.now, self.tasks, &mut live) else {
             return Listed {
                 number: u8::from(Refusal::Unsound),
                 count: 0,
@@ -375,7 +375,7 @@ impl Board {
         ensures { result ≡ counted self instant }
     {
         let mut live = [0u32; 384];
-        let Some(v) = soundness::test(self.device, self.now, self.tasks, &mut live) else {
+        let Ok(v) = soundness::test(self.device, self.now, self.tasks, &mut live) else {
             return Counted {
                 number: u8::from(Refusal::Unsound),
                 count: 0,

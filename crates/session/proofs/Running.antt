@@ -16,8 +16,9 @@ use Rattle.tasks.specs.declared.Task.{Task}
 use Rattle.slots.specs.Slots.{sound, all_aged_to}
 use Rattle.slots.proofs.Soundness.{sound-out}
 use Rattle.slots.proofs.Ageing.{aged-now}
-use Rattle.std.proofs.Common.{Option}
+use Rattle.std.proofs.Common.{Option, Result}
 use Rattle.std.specs.Option.{is_some}
+use Rattle.std.specs.Result.{is_ok, result_ok}
 use Rattle.survey.specs.declared.Findings.{Findings}
 use Rattle.soundness.specs.Tested.{Stood}
 use Rattle.events.specs.declared.Event.{Event}
@@ -100,24 +101,30 @@ pub record Running (b : State) (number most : ℕ) (bytes lent answers : List �
   pub upto : n ≤ most
   pub inside : at ≤ length bytes
 
+-- what a run begins with, where the board is sound
+found-ok : (r : Result Findings Findings) {f : Option Findings} → f ≡ result_ok r → (v : Findings) → f ≡ Some v → ◌≡◌ {A = Result Findings Findings} r (Ok v)
+found-ok (Ok w) e v q = let z : w ≡ v = cc in ap (λ x. Ok x) z
+found-ok (Err w) e v q = cc
+
 -- AT THE BEGIN: the board that was handed over, tested once
-pub run-begin : (tasks : List Task) (clock : ℕ) (D : Device) (number most : ℕ) (bytes lent live masks : List ℕ) (r : Option Findings) → Stood D clock tasks live masks r
-    → let d : Brief = record { clock = clock; device = D; found = r } in
+pub run-begin : (tasks : List Task) (clock : ℕ) (D : Device) (number most : ℕ) (bytes lent live masks : List ℕ) (r : Result Findings Findings) {f : Option Findings} → Stood D clock tasks live masks r
+    → f ≡ result_ok r → is_some f ≡ is_ok r
+    → let d : Brief = record { clock = clock; device = D; found = f } in
     Running (state_of tasks d) number most bytes lent lent tasks live masks d 0 0 0
 unfolding line_numbers
-run-begin tasks clock D number most bytes lent live masks r o = record {
+run-begin tasks clock D number most bytes lent live masks r {f} o e w = record {
   slots = tasks;
   keeps = record {
     slots = o.tested.slots;
     size = o.tested.size;
     wide = o.wide;
-    good = sym o.tested.sound;
-    kept = o.tested.kept;
-    masked = o.masked;
-    used = o.tested.used;
+    good = sym (w ∙ o.tested.sound);
+    kept = λ v q. o.tested.kept v (found-ok r e v q);
+    masked = λ v q. o.masked v (found-ok r e v q);
+    used = λ v q. rw (found-ok r e v q) at o.tested.used;
   };
   size = o.tested.slots;
-  records = as-booked (is_some r) o.tested.sound;
+  records = as-booked (is_some f) (w ∙ o.tested.sound);
   done = [];
   lines = ap (λ x. (ran_from x (begun) number bytes).lines) first ∙ ap (λ x. (ran_from (most - 0) (begun) x bytes).lines) start;
   state = ap (λ x. (ran_from x (begun) number bytes).state) first ∙ ap (λ x. (ran_from (most - 0) (begun) x bytes).state) start;

@@ -87,11 +87,11 @@ pub fn run(state: State, number: u32, bytes: &[u8], answers: &mut [u32]) -> Ran
     let on = board.device;
     let mut live = [0u32; 384];
     let mut masks = [0u64; 256];
-    let found = soundness::stand(on, board.now, tasks, &mut live, &mut masks);
+    let stood = soundness::stand(on, board.now, tasks, &mut live, &mut masks);
     let mut d = Brief {
         clock: board.now,
         device: on,
-        found,
+        found: stood.ok(),
     };
     let most = room(answers.len(), number);
     let mut at: usize = 0;

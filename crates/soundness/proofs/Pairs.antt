@@ -24,7 +24,7 @@ use Rattle.live.specs.Live.{id_at, slot_at, task_at, OnDevice}
 use Rattle.live.specs.Kept.{Stands, Kept}
 use Rattle.live.proofs.Planned.{entry-id, entry-task, entries-device}
 use Rattle.live.proofs.Standing.{exchanged-stands}
-use Rattle.std.proofs.Common.{None, Some}
+use Rattle.std.proofs.Common.{Result, Ok, Err, IsErrAnd}
 use Rattle.survey.specs.declared.Findings.{Findings}
 use Rattle.survey.specs.Survey.{Surveyed}
 use Rattle.sorting.specs.Sorting.{Sorted as InOrder}
@@ -184,13 +184,14 @@ module _ (D : Device) (now : ℕ) (ks : List Task) (raw : List ℕ) where
   fails true false p q = refl
   fails false s p q = refl
 
-  pub tested-slots : Surveyed D now ks raw None → {rows : List ℕ} → length rows ≡ 384 → Tested D now ks rows None
+  pub tested-slots : (v : Findings) → Surveyed D now ks raw (Err v) → {rows : List ℕ} → length rows ≡ 384 → Tested D now ks rows (Err v)
   unfolding sound
-  tested-slots o z = record {
+  tested-slots v o z = record {
     size = z;
     slots = o.slots;
     sound = sym (rw (o.slots, ← o.sound) (fails (device_fits D && leb now last_instant) false _ (and-false (device_fits D && leb now last_instant))));
-    used = λ v q. cc;
+    few = o.few;
+    used = o.used;
     kept = λ v q. cc;
   }
     where
@@ -198,14 +199,21 @@ module _ (D : Device) (now : ℕ) (ks : List Task) (raw : List ℕ) where
       and-false true = refl
       and-false false = refl
 
-  module _ (v : Findings) (o : Surveyed D now ks raw (Some v)) where
-    pub tested-off : (device_fits D && leb now last_instant) ≡ false → {rows : List ℕ} → length rows ≡ 384 → Tested D now ks rows None
+  -- and what `?` hands on of that
+  pub tested-err : {v : Findings} → Surveyed D now ks raw (Err v) → {rows : List ℕ} → length rows ≡ 384
+      → (r : Result Findings Findings) → IsErrAnd r (λ w. w ≡ v) → Tested D now ks rows r
+  tested-err o z (Ok w) e = elim e [ ]
+  tested-err {v} o z (Err w) e = rw e (tested-slots v o z)
+
+  module _ (v : Findings) (o : Surveyed D now ks raw (Ok v)) where
+    pub tested-off : (device_fits D && leb now last_instant) ≡ false → {rows : List ℕ} → length rows ≡ 384 → Tested D now ks rows (Err v)
     unfolding sound
     tested-off e z = record {
       size = z;
       slots = o.slots;
       sound = sym (rw (o.slots, ← o.sound) (fails (device_fits D && leb now last_instant) true _ (and-true (device_fits D && leb now last_instant) ∙ e)));
-      used = λ v q. cc;
+      few = o.few;
+      used = o.used;
       kept = λ v q. cc;
     }
 
@@ -233,14 +241,15 @@ module _ (D : Device) (now : ℕ) (ks : List Task) (raw : List ℕ) where
             rw (is_true (device_fits D && leb now last_instant) fits, o.slots, is_true (all? (slot_sound D now) ks) good)
             (pairs-same D now ks v.count rows stands good d q)
 
-        pub tested-sound : (differ && apart) ≡ true → Tested D now ks rows (Some v)
+        pub tested-sound : (differ && apart) ≡ true → Tested D now ks rows (Ok v)
         tested-sound z = record {
           size = s.size;
           slots = o.slots;
-          sound = sym z ∙ found;
+          few = o.few;
           used = o.used;
+          sound = sym z ∙ found;
           kept = λ w y. let x : v ≡ w = cc in subst (λ u. Kept D now ks u.count rows) x (record { good = sym found ∙ z; stands = stands; falling = s.falling });
         }
 
-        pub tested-clash : (differ && apart) ≡ false → Tested D now ks rows None
-        tested-clash z = record { size = s.size; slots = o.slots; sound = sym z ∙ found; used = λ v q. cc; kept = λ v q. cc }
+        pub tested-clash : (differ && apart) ≡ false → Tested D now ks rows (Err v)
+        tested-clash z = record { size = s.size; slots = o.slots; few = o.few; used = o.used; sound = sym z ∙ found; kept = λ v q. cc }

@@ -1,6 +1,5 @@
 -- The live tasks of a board, and whether it is sound: code-level definitions; no promise of a public call cites them. Assumes nothing.
-use Rattle.std.specs.Prelude.{ℕ, ◌≤◌, ◌<◌, ◌≡◌, Bool, true, false, List, length, get_or, Option, Some}
-use Rattle.std.specs.Option.{is_some}
+use Rattle.std.specs.Prelude.{ℕ, ◌≤◌, ◌<◌, ◌≡◌, Bool, true, false, List, length, get_or, Result, Ok, is_ok}
 use Rattle.tasks.specs.declared.Device.{Device}
 use Rattle.tasks.specs.declared.Task.{Task}
 use Rattle.tasks.specs.Tasks.{meets}
@@ -8,6 +7,7 @@ use Rattle.slots.specs.Slots.{sound}
 use Rattle.live.specs.Live.{task_at, Apart, Masked}
 use Rattle.live.specs.Kept.{Kept, InUse}
 use Rattle.survey.specs.declared.Findings.{Findings}
+use Rattle.survey.specs.Survey.{findings_of}
 
 -- a column from left up to, not including, past that was taken by a start before finish
 pub record Clash (left past finish : ℕ) (row : List ℕ) : Type 0 where
@@ -39,15 +39,16 @@ pub record Judged (n : ℕ) (rows : List ℕ) (r : Bool) : Type 0 where
   pub meeting : r ≡ false → Meeting n rows
 
 -- whether a board is sound, and where it is, its live table
-pub record Tested (D : Device) (clock : ℕ) (ks : List Task) (rows : List ℕ) (r : Option Findings) : Type 0 where
+pub record Tested (D : Device) (clock : ℕ) (ks : List Task) (rows : List ℕ) (r : Result Findings Findings) : Type 0 where
   pub size : length rows ≡ 384
   pub slots : length ks ≡ 64
-  pub sound : is_some r ≡ sound D clock ks
-  pub used : (v : Findings) → r ≡ Some v → InUse 64 ks v.used
-  pub kept : (v : Findings) → r ≡ Some v → Kept D clock ks v.count rows
+  pub few : (findings_of r).count ≤ 64
+  pub used : InUse 64 ks (findings_of r).used
+  pub sound : is_ok r ≡ sound D clock ks
+  pub kept : (v : Findings) → r ≡ Ok v → Kept D clock ks v.count rows
 
 -- the same with the words of its tasks' columns
-pub record Stood (D : Device) (clock : ℕ) (ks : List Task) (rows masks : List ℕ) (r : Option Findings) : Type 0 where
+pub record Stood (D : Device) (clock : ℕ) (ks : List Task) (rows masks : List ℕ) (r : Result Findings Findings) : Type 0 where
   pub tested : Tested D clock ks rows r
   pub wide : length masks ≡ 256
-  pub masked : (v : Findings) → r ≡ Some v → Masked v.count rows masks
+  pub masked : (v : Findings) → r ≡ Ok v → Masked v.count rows masks

@@ -74,9 +74,14 @@ fn none_meets(live: &Live, n: usize) -> bool
     true
 }
 
-// The live tasks of a board where it is sound, the last to finish first, and what the survey found of them; none where it is not sound:
-// device and clock, each slot, each pair of live tasks.
-pub fn test(on: Device, clock: u32, tasks: [Task; 64], live: &mut Live) -> Option<Findings>
+// The live tasks of a board where it is sound, the last to finish first, and what the survey found of them; as an error where it is not
+// sound: device and clock, each slot, each pair of live tasks.
+pub fn test(
+    on: Device,
+    clock: u32,
+    tasks: [Task; 64],
+    live: &mut Live,
+) -> Result<Findings, Findings>
     requires { length live.old ≡ 384 }
     ensures { Tested on clock tasks live.new result }
 {
@@ -84,12 +89,12 @@ pub fn test(on: Device, clock: u32, tasks: [Task; 64], live: &mut Live) -> Optio
     let v = survey::survey(on, clock, tasks, &mut raw)?;
     let fits = tasks::device_fits(on);
     if !(fits & (clock <= tasks::LAST_INSTANT)) {
-        return None;
+        return Err(v);
     }
     sorting::sort(&raw, v.count, live);
     let differ = ids_differ(live, v.count);
     let apart = none_meets(live, v.count);
-    if differ & apart { Some(v) } else { None }
+    if differ & apart { Ok(v) } else { Err(v) }
 }
 
 // The same with the words of their columns.
@@ -99,13 +104,13 @@ pub fn stand<'a>(
     tasks: [Task; 64],
     live: &'a mut Live,
     masks: &'a mut Masks,
-) -> Option<Findings>
+) -> Result<Findings, Findings>
     requires { (length live.old ≡ 384) × (length masks.old ≡ 256) }
     ensures { Stood on clock tasks live.new masks.new result }
 {
     let v = test(on, clock, tasks, live)?;
     sorting::mark(live, v.count, masks);
-    Some(v)
+    Ok(v)
 }
 
 // Whether the slots make a sound board.
@@ -113,5 +118,5 @@ pub fn is_sound(on: Device, clock: u32, tasks: [Task; 64]) -> bool
     ensures { result ≡ sound on clock tasks }
 {
     let mut live = [0u32; 384];
-    test(on, clock, tasks, &mut live).is_some()
+    test(on, clock, tasks, &mut live).is_ok()
 }

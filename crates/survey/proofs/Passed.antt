@@ -22,7 +22,7 @@ use Rattle.live.specs.Live.{at, number, put_from}
 use Rattle.live.specs.Kept.{Stands, InUse}
 use Rattle.live.proofs.Putting.{six, put-length, put-here, put_other}
 use Rattle.live.proofs.Standing.{no-slots, slot-skipped, slot-taken}
-use Rattle.std.proofs.Common.{None, Some}
+use Rattle.std.proofs.Common.{Ok, Err}
 use Rattle.survey.specs.Survey.{Surveyed}
 
 -- the numbers that the survey puts of slot i
@@ -128,20 +128,22 @@ module _ (D : Device) (now : ℕ) (ks : List Task) where
     every : sound ≡ all? (slot_sound D now) ks
     every = p.sounds ∙ ap (all? (slot_sound D now)) whole
 
-    pub end-sound : sound ≡ true → Surveyed D now ks rows (Some (record { count = n; used = used }))
+    pub end-sound : sound ≡ true → Surveyed D now ks rows (Ok (record { count = n; used = used }))
     end-sound s = record {
       size = p.size;
       slots = p.slots;
+      few = omega (arith, p.below);
+      used = subst (λ m. InUse m ks used) e p.taken;
       sound = sym s ∙ every;
-      used = λ v q. let z : used ≡ v.used = cc in subst (λ u. InUse 64 ks u) z (subst (λ m. InUse m ks used) e p.taken);
       stands = λ v q. let z : n ≡ v.count = cc in subst (λ m. Stands 64 ks m rows) z (rw e at (p.stands (rw (← p.sounds, s) tt)));
     }
 
-    pub end-unsound : sound ≡ false → Surveyed D now ks rows None
+    pub end-unsound : sound ≡ false → Surveyed D now ks rows (Err (record { count = n; used = used }))
     end-unsound s = record {
       size = p.size;
       slots = p.slots;
+      few = omega (arith, p.below);
+      used = subst (λ m. InUse m ks used) e p.taken;
       sound = sym s ∙ every;
-      used = λ v q. cc;
       stands = λ v q. cc;
     }

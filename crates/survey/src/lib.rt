@@ -27,8 +27,14 @@ fn used_with(used: u64, i: u32, on: bool) -> u64
     used
 }
 
-// The survey of the slots, none where one of them is not sound. Each slot is put at `count`, and `count` goes past it only where it is live: no branch to miss.
-pub fn survey(on: Device, clock: u32, tasks: [Task; 64], live: &mut Live) -> Option<Findings>
+// The survey of the slots: what it finds, as an error where one of them is not sound. Each slot is put at `count`, and `count` goes
+// past it only where it is live: no branch to miss.
+pub fn survey(
+    on: Device,
+    clock: u32,
+    tasks: [Task; 64],
+    live: &mut Live,
+) -> Result<Findings, Findings>
     requires { length live.old ≡ 384 }
     ensures { Surveyed on clock tasks live.new result }
 {
@@ -52,9 +58,6 @@ pub fn survey(on: Device, clock: u32, tasks: [Task; 64], live: &mut Live) -> Opt
         count += lists::one_if(lives) as usize;
         used = used_with(used, i as u32, lives);
     }
-    if sound {
-        Some(Findings { count, used })
-    } else {
-        None
-    }
+    let found = Findings { count, used };
+    if sound { Ok(found) } else { Err(found) }
 }

@@ -18,7 +18,7 @@ pub loop-n-init : goal.loop-n-init
 loop-n-init c =
     let a = c.args in
     run-begin a.state.board.tasks a.state.board.now a.state.board.device a.number c.room-most.result a.bytes.now
-    a.answers.now _ _ c.stand-found.result c.stand-found.ensures
+    a.answers.now _ _ c.stand-stood.result c.stand-stood.ensures c.ok.ensures.value c.ok.ensures.variant
 
 pub overflow_add-at : goal.overflow_add-at
 overflow_add-at c =

@@ -4,12 +4,12 @@ use mathlib.Core.Bool.{◌&&◌, not}
 use lib.Dec.{leb}
 use borrow.Author.Tests.{not-true, not-false}
 use borrow.Author.Rules.{rules}
-use Rattle.soundness.proofs.Pairs.{tested-slots, tested-off, sorted-device, tested-sound, tested-clash}
+use Rattle.soundness.proofs.Pairs.{tested-err, tested-off, sorted-device, tested-sound, tested-clash}
 use Rattle.tasks.specs.Numbers.{last_instant}
 use Rattle.soundness.proofs.test.Goals as goal
 
 pub returns-in_err-v : goal.returns-in_err-v
-returns-in_err-v c = rw c.from_residual.ensures (tested-slots _ _ _ _ c.in_err-v.ensures (search rules))
+returns-in_err-v c = tested-err _ _ _ _ c.in_err-v.ensures (search rules) _ c.from_residual.ensures.1
 
 pub returns-then-not-fits-clock : goal.returns-then-not-fits-clock
 returns-then-not-fits-clock c =

@@ -9,15 +9,15 @@ returns-in_default c = rw c.from.ensures (sym (counted-unsound _ _ (sym c.in_def
 
 pub returns-in-Err : goal.returns-in-Err
 returns-in-Err c =
-    let k = c.in-Some.ensures.kept _ refl in
+    let k = c.in-Ok.ensures.kept _ refl in
     rw c.from-in-Err.ensures (sym (counted-refused _ _ _ k.stands k.good _ c.in-Err.ensures (is_told _)))
 
 pub count-count-requires : goal.count-count-requires
 count-count-requires c =
-    let k = c.in-Some.ensures.kept _ refl in
+    let k = c.in-Ok.ensures.kept _ refl in
     rw c.from-2.ensures (lent-on _ _ _ k.stands k.good)
 
 pub returns : goal.returns
 returns c =
-    let k = c.in-Some.ensures.kept _ refl in
+    let k = c.in-Ok.ensures.kept _ refl in
     counted-done _ _ _ k.stands k.good _ c.in_default-refuse_instant.ensures refl (rw c.from-2.ensures at c.count-count.ensures)

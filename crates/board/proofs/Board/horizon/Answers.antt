@@ -12,19 +12,19 @@ returns-in_default c =
 
 pub list-count-requires : goal.list-count-requires
 list-count-requires c =
-    let k = c.in-Some.ensures.kept _ refl in
+    let k = c.in-Ok.ensures.kept _ refl in
     rw c.from-columns.ensures (lent-on _ _ _ k.stands k.good, k.falling, has-columns _ _ _ k.stands k.good)
 
 pub returns-then-room-count : goal.returns-then-room-count
 returns-then-room-count c =
     let a = c.args in
-    let k = c.in-Some.ensures.kept _ refl in
+    let k = c.in-Ok.ensures.kept _ refl in
     let all = listed-short a.self _ _ k.stands k.good a.buffer.now (rw c.from-columns.ensures at c.list-count.ensures.value) (rw c.from-columns.ensures at c.list-count.ensures.buffer_after) (omega arith) in
     record { value = rw c.from-then-room-count.ensures all.0; buffer_after = all.1 }
 
 pub returns : goal.returns
 returns c =
     let a = c.args in
-    let k = c.in-Some.ensures.kept _ refl in
+    let k = c.in-Ok.ensures.kept _ refl in
     let all = listed-done a.self _ _ k.stands k.good a.buffer.now (rw c.from-columns.ensures at c.list-count.ensures.value) (rw c.from-columns.ensures at c.list-count.ensures.buffer_after) (omega arith) in
     record { value = all.0; buffer_after = all.1 }

@@ -17,27 +17,27 @@ returns-in_default c =
 
 pub decide-answer-requires : goal.decide-answer-requires
 decide-answer-requires c =
-    let k = c.in-Some.ensures.kept _ refl in
+    let k = c.in-Ok.ensures.kept _ refl in
     record {
       slots = c.args.self.tasks;
       kept = k;
-      lowest = free-lowest c.in-Some.ensures.slots (c.in-Some.ensures.used _ refl) c.lowest_free-free.ensures;
+      lowest = free-lowest c.in-Ok.ensures.slots c.in-Ok.ensures.used c.lowest_free-free.ensures;
       masked = c.mark_for.ensures;
     }
 
 pub book-requires : goal.book-requires
 book-requires c =
     let a = c.args in
-    let k = c.in-Some.ensures.kept _ refl in
-    let l = free-lowest c.in-Some.ensures.slots (c.in-Some.ensures.used _ refl) c.lowest_free-free.ensures in
+    let k = c.in-Ok.ensures.kept _ refl in
+    let l = free-lowest c.in-Ok.ensures.slots c.in-Ok.ensures.used c.lowest_free-free.ensures in
     let o = placed-books a.self a.planner a.a l (sym (c.decide-answer.ensures _ k l) ∙ c.in-Placed.is) in
     (o.inside, omega (arith, o.fits))
 
 pub returns-in-Rejected : goal.returns-in-Rejected
 returns-in-Rejected c =
     let a = c.args in
-    let k = c.in-Some.ensures.kept _ refl in
-    let l = free-lowest c.in-Some.ensures.slots (c.in-Some.ensures.used _ refl) c.lowest_free-free.ensures in
+    let k = c.in-Ok.ensures.kept _ refl in
+    let l = free-lowest c.in-Ok.ensures.slots c.in-Ok.ensures.used c.lowest_free-free.ensures in
     let none : (column start finish : ℕ) → c.decide-answer.result ≡ Placed column start finish → ⊥ =
     elim c.in-Rejected.is [ inl e ↦ rw e rejected-places | inr e ↦ rw e.1 (refused-places e.0) ] in
     let all = promised _ _ (sym (unplaced-same a.self a.planner a.a _ (sym (c.decide-answer.ensures _ k l)) none)) in
@@ -46,8 +46,8 @@ returns-in-Rejected c =
 pub returns-in-Placed : goal.returns-in-Placed
 returns-in-Placed c =
     let a = c.args in
-    let k = c.in-Some.ensures.kept _ refl in
-    let l = free-lowest c.in-Some.ensures.slots (c.in-Some.ensures.used _ refl) c.lowest_free-free.ensures in
+    let k = c.in-Ok.ensures.kept _ refl in
+    let l = free-lowest c.in-Ok.ensures.slots c.in-Ok.ensures.used c.lowest_free-free.ensures in
     let o = placed-books a.self a.planner a.a l (sym (c.decide-answer.ensures _ k l) ∙ c.in-Placed.is) in
     let all = promised _ _ (c.book.ensures ∙ sym o.same) in
     record { value = all.0; answer_value = all.1 }
