@@ -26,7 +26,8 @@ pub struct Board {
 }
 
 // "A submission is answered by one of three: a place, a rejection, or a refusal."
-// Stays: "Refused with its number" is the form that document 01 names, here and as `number` below.
+// Stays: "Refused with its number" is a form that document 01 names (docs/DECISIONS.md, its last table), and the definitions of the
+// calls (`submitted`, `clocked` and the others) and `told` give these numbers, here and as `number` below.
 #[derive(Clone, Copy)]
 pub enum Answer {
     Rejected,
@@ -39,6 +40,7 @@ pub enum Answer {
 }
 
 // Each call hands back the board that follows inside its own answer.
+// Stays: three of them have the same fields, and each is the answer struct of its call (document 01), named so by the call's definition.
 #[derive(Clone, Copy)]
 pub struct Created {
     pub number: u8,
@@ -88,7 +90,7 @@ pub struct Counted {
     pub board: Board,
 }
 
-// The words of the live tasks' columns, for a planner that reads them.
+// The words of the live tasks' columns, for a planner that reads them: not for Horizon, 1, and Stuffing, 2.
 fn mark_for<'a>(planner: u8, live: &'a Live, n: usize, masks: &'a mut Masks)
     requires { (n ≤ 64) × (length masks.old ≡ 256) }
     ensures { (planner ≡ 1 → ⊥) → (planner ≡ 2 → ⊥) → Masked n live.now masks.new }

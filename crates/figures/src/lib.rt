@@ -29,6 +29,7 @@ pub struct Verdict {
 }
 
 // THE ONE MAP from an answer's number to a line of the summary.
+// Stays: the numbers of document 01, as the words of a line bring them.
 fn fate_of(answer: u32) -> Fate
     ensures { result ≡ fate_of answer }
 {

@@ -17,6 +17,7 @@ pub const MOST_EVENTS: u32 = 1_000_000_000;
 
 // How a recording ends: not yet; after a whole record; in 15 or 16, with the kind byte; at the last event that may be, with no
 // byte after it, or with one.
+// Stays: `NotYet` stands among the ends and is no Option's none, since what tells of an end (`reader::close`) gives them all as one.
 #[derive(Clone, Copy)]
 pub enum Ending {
     NotYet,
@@ -49,7 +50,7 @@ pub fn put_line(
     requires { at + 6 ≤ length answers.old }
     ensures { answers.new ≡ sets answers.old at (event ∷ kind ∷ number ∷ column ∷ start ∷ finish ∷ []) }
 {
-    // Stays: six stores, since an array copied into the part took 30 instructions more an event (`plan`, 200,000 events).
+    // Stays: six stores; an array copied into the part is no shorter, and took 30 instructions more an event (`plan`, 200,000 events).
     answers[at] = event;
     answers[at + 1] = u32::from(kind);
     answers[at + 2] = u32::from(number);
