@@ -1,6 +1,5 @@
 -- The columns of an instant: gathered task by task and word by word, they are the held ones. Assumes nothing.
-use Rattle.std.proofs.Common.{◌≡◌, ℕ, ◌+◌, ◌-◌, ◌*◌, ◌^◌, ◌<◌, ◌≤◌, Bool, true, false, cond, ◌&&◌, ◌||◌, ltb, leb, ◌⊎◌, List, length, get_or, set, refl, subst, sym, ap, ◌∙◌, ap₂, length-set, get_or-set_other, get_or-set_same, inl, inr, arith, le→leb, ltb→lt, lt→ltb, leb→le, le-ltb, lt-ltb}
-use native.Mathlib.Decide.{ℕ_discrete as dec_eq}
+use Rattle.std.proofs.Common.{◌≡◌, ℕ, ◌+◌, ◌-◌, ◌*◌, ◌^◌, ◌<◌, ◌≤◌, Bool, true, false, cond, ◌&&◌, ◌||◌, ltb, leb, ◌⊎◌, List, get_or, sym, ap, ◌∙◌, ap₂, inl, inr, arith, le→leb, ltb→lt, lt→ltb, leb→le, le-ltb, lt-ltb}
 use mathlib.Core.Bool.{or_assoc, or-true, or-false}
 use lib.Bits.{bit_and, bit_or}
 use Rattle.lists.specs.Lists.{some?, range}
@@ -50,47 +49,6 @@ module _ {live m : List ℕ} {end k word : ℕ} where
         bit-or held (bit_and mask v) j ∙ ap₂ ◌||◌ (h.digits j u) (bit-and mask v j ∙ ap₂ ◌&&◌ (g j u) (ap (λ x. bit x j) z))
         ∙ or_assoc (bit word j) (some? p (range 0 i)) (p i) ∙ ap (λ b. bit word j || b) (sym (some-range-more p i));
   }
-
--- The first j words of K have the first i tasks and task i; the others up to K have the first i tasks; those from K on are as they were
-pub record Gathered (live m edge : List ℕ) (end K i j : ℕ) (held : List ℕ) : Type 0 where
-  pub four : length held ≡ 4
-  pub more : (k : ℕ) → k < j → HeldWord live m end k (i + 1) (get_or edge k 0) (get_or held k 0)
-  pub less : (k : ℕ) → j ≤ k → k < K → HeldWord live m end k i (get_or edge k 0) (get_or held k 0)
-  pub others : (k : ℕ) → K ≤ k → get_or held k 0 ≡ get_or edge k 0
-
-module _ {live m edge : List ℕ} {end K : ℕ} where
-  pub gather-none : length edge ≡ 4 → Gathered live m edge end K 0 0 edge
-  gather-none z = record { four = z; more = λ k h. absurd (omega arith); less = λ k h l. word_none; others = λ k h. refl }
-
-  -- task i in one word more
-  pub gather-word : {i j : ℕ} {held : List ℕ} (mask : ℕ) → Gathered live m edge end K i j held → j < K → K ≤ 4
-      → ((d : ℕ) → d < 64 → bit mask d ≡ ltb (from_at live i) end)
-      → Gathered live m edge end K i (j + 1) (set held j (bit_or (get_or held j 0) (bit_and mask (get_or m (64 * j + i) 0))))
-  gather-word {i} {j} {held} mask o h few g = record {
-    four = length-set held j v ∙ o.four;
-    more = λ k l. more k l (dec_eq k j);
-    less = λ k l u. subst (HeldWord live m end k i (get_or edge k 0)) (sym (other k (λ e. omega arith))) (o.less k (omega arith) u);
-    others = λ k l. other k (λ e. omega arith) ∙ o.others k l;
-  }
-    where
-      v : ℕ
-      v = bit_or (get_or held j 0) (bit_and mask (get_or m (64 * j + i) 0))
-
-      other : (k : ℕ) → (k ≡ j → ⊥) → get_or (set held j v) k 0 ≡ get_or held k 0
-      other k e = get_or-set_other held j k v 0 e
-
-      place : get_or m (64 * j + i) 0 ≡ at j m i
-      place = ap (λ x. get_or m x 0) (let z : 64 * j + i ≡ j * 64 + i = omega arith in z)
-
-      more : (k : ℕ) → k < j + 1 → Dec (k ≡ j) → HeldWord live m end k (i + 1) (get_or edge k 0) (get_or (set held j v) k 0)
-      more k l (yes e) =
-          rw e (subst (HeldWord live m end j (i + 1) (get_or edge j 0)) (sym (get_or-set_same held j v 0 (omega (arith, o.four))))
-          (word_more mask (o.less j (omega arith) h) g place))
-      more k l (no e) = subst (HeldWord live m end k (i + 1) (get_or edge k 0)) (sym (other k e)) (o.more k (omega arith))
-
-  -- one task more in each
-  pub gather-task : {i j : ℕ} {held : List ℕ} → Gathered live m edge end K i j held → K ≤ j → Gathered live m edge end K (i + 1) 0 held
-  gather-task o h = record { four = o.four; more = λ k l. absurd (omega arith); less = λ k l u. o.more k (omega arith); others = o.others }
 
 -- The first n of `count` tasks are those that finish after t
 module _ (W count n : ℕ) (live m : List ℕ) (t e : ℕ) (h : 1 ≤ e) (k : Lent W count live m) (a : After live count t n) where
