@@ -132,7 +132,7 @@ pub fn put_answer(out: &mut [u8; 8192], number: u32) -> usize
     text::put_ended::<10>(out, at, u64::from(number), b'\n')
 }
 
-// The end of that message: what the answer says of the record.
+// The end of the message below: what the answer says of the record.
 fn halt_tail(end: u8) -> &'static [u8]
     ensures tail { result.now ≡ cond (eqb end 15) is_cut_short is_unknown }
     ensures upper_bound { length result.now ≤ 60 }
