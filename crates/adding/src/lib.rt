@@ -322,7 +322,7 @@ pub fn goes_on(a: Adding) -> bool
     a.at.fault.is_none()
 }
 
-// The sum as a summary, at the front of the buffer; how many bytes it takes. None where something was refused.
+// The sum as a summary, at the front of the buffer; how many bytes it takes: 0 where something was refused.
 pub fn close(a: Adding, out: &mut [u8; 8192]) -> usize
     ensures put { Put out.old 0 (closing (state_in a)) out.new result }
     ensures upper_bound { (result ≤ 3004) × (length out.new ≡ length out.old) }

@@ -6,6 +6,7 @@ ghost use Rattle.text.specs.Digits.{Put};
 ghost use Rattle.answer_words.specs.AnswerWords.{answer_words};
 
 // An answer in words; none for a number that they do not give.
+// Stays: bytes and no Display, since std's `write!` into a lent `&mut [u8]` may fail, and no clause tells the bytes it puts.
 #[tactic(auto, unfolding(crate::specs::AnswerWords::answer_words))]
 fn in_words(number: u32) -> &'static [u8]
     ensures words { result.now ≡ answer_words number }

@@ -44,7 +44,8 @@ pub fn put_argument(text: &mut [u8], at: usize, bytes: &[u8]) -> usize
 
 // What the arguments of `ask` tell: help, something wrong, that the next one names the file, which one does (0 for none), and
 // how many bytes the words of the question take.
-// Stays: 0 for no file is what `system` opens as standard input, and the definitions count arguments from 1.
+// Stays: an Option is no plainer: argument 0 is the program's own name, so 0 names no file already, and the definition
+// `takes_asked` and the theorems over it (`ask_text/proofs/Whole`) count arguments from 1 with 0 for none.
 #[derive(Clone, Copy)]
 pub struct Asked {
     pub help: bool,

@@ -20,6 +20,7 @@ fn run(rt: &HostRuntime) -> io::Result<()> {
     };
     let mut piece = [0u8; 65536];
     let mut a = asking::begin(question);
+    // A loop has to end, and nothing says that the input does.
     for _ in 0..u64::MAX {
         input = system::fill(rt, input, b"ask: ", &mut piece);
         let fed = asking::feed(a, &piece[input.from..input.to]);
@@ -36,6 +37,7 @@ fn run(rt: &HostRuntime) -> io::Result<()> {
     let end = asking::close(a, &mut piece, &mut err);
     let mut done = system::write(rt, b"ask: ", &piece[..end.used], &err[..end.said])?;
     a = end.asking;
+    // A loop has to end, and nothing says that the pages do.
     for _ in 0..u64::MAX {
         if !(done & a.page.is_some()) {
             break;

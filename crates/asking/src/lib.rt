@@ -26,7 +26,8 @@ pub struct Page {
     pub left: u32,
 }
 
-// Where the program stands, and the page that follows where a further part of the answer waits. Where nothing is asked, nothing is answered.
+// Where the program stands, and the page that follows where a further part of the answer waits. Where nothing is asked, nothing
+// is answered.
 #[derive(Clone, Copy)]
 pub struct Asking {
     pub reader: Reader,
@@ -261,6 +262,7 @@ fn turn(board: Board, page: Page, out: &mut [u8; 65536]) -> Part
 }
 
 // "a message on standard error names the event".
+// Stays: `end` is document 01's number, which `board_text::put_halt` takes and `halt_text` has.
 fn put_message(err: &mut [u8; 512], event: u32, kind: u8, end: u8) -> usize
     ensures value { result ≡ length (halt_text event kind end) }
     ensures err_after { err.new ≡ over_front (halt_text event kind end) err.old }

@@ -23,7 +23,8 @@ struct Load {
 }
 
 // 0: the source's section 5.1. 1: a wide device, about 30 live tasks. 2: the slots nearly full.
-// Stays: workloads and planners are numbers, since a line of standard input names them by digits.
+// Stays: workloads and planners are digits of a line of standard input: an enum would be made of the digit by one match, and
+// told apart by the same match again.
 fn drawing(workload: u8) -> Load {
     match workload {
         0 => Load {

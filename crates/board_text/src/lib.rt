@@ -12,6 +12,7 @@ use board::Board;
 use tasks::{Phase, Task};
 
 // "phase in words", the last of a row, and the newline.
+// Stays: bytes and no Display, since std's `write!` into a lent `&mut [u8]` may fail, and no clause tells the bytes it puts.
 fn phase_line(phase: Phase) -> &'static [u8]
     ensures line { result.now ≡ phase_word phase ++ (10 ∷ []) }
     ensures upper_bound { length result.now ≤ 8 }
@@ -132,7 +133,7 @@ pub fn put_answer(out: &mut [u8; 8192], number: u32) -> usize
     text::put_ended::<10>(out, at, u64::from(number), b'\n')
 }
 
-// The end of that message: what the answer says of the record.
+// The end of the message below: what the answer says of the record.
 fn halt_tail(end: u8) -> &'static [u8]
     ensures tail { result.now ≡ cond (eqb end 15) is_cut_short is_unknown }
     ensures upper_bound { length result.now ≤ 60 }
@@ -145,6 +146,7 @@ fn halt_tail(end: u8) -> &'static [u8]
 }
 
 // The message of a recording that ends in 15 or 16, at the front of the buffer; how many bytes it takes.
+// Stays: `end` is document 01's number, as the definition `halt_text` has it; `asking` has an enum for the two (`Ending`).
 pub fn put_halt(out: &mut [u8; 8192], event: u32, kind: u8, end: u8) -> usize
     ensures value { result ≡ length (halt_text event kind end) }
     ensures out_after { out.new ≡ over_front (halt_text event kind end) out.old }

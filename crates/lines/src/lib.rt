@@ -72,17 +72,13 @@ fn numbers<const N: usize>(
     kind: Kind,
     before: usize,
 ) -> Result<[u32; N], Wrong>
-    requires few { N ≤ 7 }
-    requires one_or_two { before ≤ 2 }
+    requires { before ≤ 2 }
     ensures { MatchResult result (λ values. Numbers (words text.now) mosts.now values) (λ w. (w ≡ record { kind = kind; word = wrong 1 mosts.now (words text.now) + before }) × (wrong 1 mosts.now (words text.now) ≢ 0)) }
 {
-    match tokens::read_numbers(text, mosts) {
-        Ok(values) => Ok(values),
-        Err(n) => Err(Wrong {
-            kind,
-            word: n + before,
-        }),
-    }
+    tokens::read_numbers(text, mosts).map_err(|n| Wrong {
+        kind,
+        word: n + before,
+    })
 }
 
 // The words behind the name of each kind of line; those of a board with a third word, which is its grid.
@@ -102,7 +98,7 @@ fn grid_line(text: &[u8]) -> Result<Option<Event>, Wrong>
 fn board_line(text: &[u8]) -> Result<Option<Event>, Wrong>
     ensures { result ≡ board_line (words text.now) }
 {
-    match tokens::read_numbers(text, &[65535, 65535]) {
+    match tokens::read_numbers::<2>(text, &[65535, 65535]) {
         Ok(values) => Ok(Some(Event::NewBoard {
             columns: values[0] as u16,
             rows: values[1] as u16,

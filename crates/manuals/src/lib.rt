@@ -20,7 +20,8 @@ fn put_answers(out: &mut [u8], at: usize) -> usize
     )
 }
 
-// A manual where help was asked for, its head and the answers, and the usage otherwise, at the front of the buffer; how many bytes it takes.
+// A manual where help was asked for, its head and the answers, and the usage otherwise, at the front of the buffer; how many
+// bytes it takes.
 fn put_manual(out: &mut [u8; 4096], help: bool, usage: &[u8], head: &[u8]) -> usize
     requires { (length usage.now ≤ 3496) × (length head.now ≤ 3496) }
     ensures value { result ≡ length (cond help (head.now ++ answers_text) usage.now) }

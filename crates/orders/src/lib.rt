@@ -5,7 +5,8 @@ ghost use Rattle.std.specs.Prelude.{◌≡◌};
 ghost use Rattle.orders.specs.Orders.{no_order, refused, option, takes};
 
 // Whether help is asked for, answers in words are, an argument is wrong; which argument names the file, 0 for none.
-// Stays: 0 for no file is what `system` opens as standard input, and the definitions count arguments from 1.
+// Stays: an Option is no plainer: argument 0 is the program's own name, so 0 names no file already, and the definitions `takes`
+// and `orders_from` count arguments from 1 with 0 for none.
 #[derive(Clone, Copy)]
 pub struct Order {
     pub help: bool,

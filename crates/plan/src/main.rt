@@ -22,6 +22,7 @@ fn run(rt: &HostRuntime) -> io::Result<()> {
     let size = listing::put_header(&mut header, order.words);
     let mut l = listing::begin(order.words);
     let mut on = system::write(rt, b"plan: ", &header[..size], b"")?;
+    // A loop has to end, and nothing says that the input does.
     for _ in 0..u64::MAX {
         if !on {
             break;

@@ -27,10 +27,8 @@ pub enum Question {
 fn alone(text: &[u8], question: Question) -> Option<Question>
     ensures { result ≡ right_or [] (words text.now) (Some question) None }
 {
-    match tokens::read_numbers(text, &[]) {
-        Ok(_) => Some(question),
-        Err(_) => None,
-    }
+    tokens::read_numbers::<0>(text, &[]).ok()?;
+    Some(question)
 }
 
 // The instant of one that has an instant.
@@ -38,10 +36,8 @@ fn alone(text: &[u8], question: Question) -> Option<Question>
 fn instant(text: &[u8]) -> Option<u32>
     ensures { result ≡ right_or (4294967295 ∷ []) (words text.now) (Some (nth 0 (words text.now))) None }
 {
-    match tokens::read_numbers(text, &[u32::MAX]) {
-        Ok(values) => Some(values[0]),
-        Err(_) => None,
-    }
+    let [instant] = tokens::read_numbers::<1>(text, &[u32::MAX]).ok()?;
+    Some(instant)
 }
 
 // Openings of a task, by the numbers of the question; its id is not read, so 0.
@@ -72,15 +68,15 @@ fn openings(text: &[u8]) -> Option<Question>
     ensures { result ≡ openings_asked (words text.now) }
 {
     let mosts = [65535, 65535, u32::MAX, u32::MAX];
-    if let Ok(v) = tokens::read_numbers(text, &mosts) {
+    if let Ok(v) = tokens::read_numbers::<4>(text, &mosts) {
         return Some(opened(v[0], v[1], v[2], v[3], 0, 0, 1000));
     }
     let mosts = [65535, 65535, u32::MAX, u32::MAX, u32::MAX, 65535];
-    if let Ok(v) = tokens::read_numbers(text, &mosts) {
+    if let Ok(v) = tokens::read_numbers::<6>(text, &mosts) {
         return Some(opened(v[0], v[1], v[2], v[3], v[4], v[5], 1000));
     }
     let mosts = [65535, 65535, u32::MAX, u32::MAX, u32::MAX, 65535, u32::MAX];
-    if let Ok(v) = tokens::read_numbers(text, &mosts) {
+    if let Ok(v) = tokens::read_numbers::<7>(text, &mosts) {
         return Some(opened(v[0], v[1], v[2], v[3], v[4], v[5], v[6]));
     }
     None

@@ -21,6 +21,7 @@ fn run(rt: &HostRuntime) -> io::Result<()> {
     let mut out = [0u8; 65536];
     let mut err = [0u8; 512];
     let mut r = recorder::begin();
+    // A loop has to end, and nothing says that the input does.
     for _ in 0..u64::MAX {
         input = system::fill(rt, input, b"record: ", &mut piece);
         let waiting = &piece[input.from..input.to];

@@ -241,6 +241,7 @@ fn put_record(out: &mut [u8], used: usize, event: Event) -> usize
 }
 
 // What a line made: the bytes of its output, how many records that is, whether the run goes on.
+// Stays: no enum, since the definition `step_of` names these fields, of what `line_made` says in the same words.
 #[derive(Clone, Copy)]
 pub struct Step {
     pub used: usize,
@@ -312,7 +313,7 @@ fn feed_part(
     ensures out_after { out.new ≡ sets out.old used (part_fed r held.old part.now ends).output.out }
     ensures err_after { err.new ≡ over_front (part_fed r held.old part.now ends).output.err err.old }
 {
-    let from = r.held as usize;
+    let from = usize::from(r.held);
     let size = part.len();
     if 65536 - from <= size {
         out[used] = 0;
@@ -424,7 +425,7 @@ pub fn close(
     };
     if recorder.more {
         if whole {
-            let n = recorder.held as usize;
+            let n = usize::from(recorder.held);
             let all = &held[..];
             let s = put_line(recorder.line, recorder.records, &all[0..n], out, 0, err);
             return Fed {

@@ -18,6 +18,7 @@ pub struct Sums {
 }
 
 // The name of a planner and the space behind it.
+// Stays: bytes and no Display, here and below: std's `write!` into a lent `&mut [u8]` may fail, and no clause tells its bytes.
 #[tactic(auto, unfolding(crate::specs::Sheets::planner_names))]
 fn planner_word(n: usize) -> &'static [u8]
     requires { n < 4 }

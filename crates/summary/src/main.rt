@@ -29,6 +29,7 @@ fn sum_file(rt: &HostRuntime, before: Summed, file: usize, pace: &mut Pace) -> O
     let mut piece = [0u8; 65536];
     let mut numbers = [0u32; 24576];
     let mut input = system::open(rt, b"summary: ", file)?;
+    // A loop has to end, and nothing says that the input does.
     for _ in 0..u64::MAX {
         input = system::fill(rt, input, &label.bytes[..label.size], &mut piece);
         let fed = summing::feed(s, &piece[input.from..input.to], &mut numbers);
@@ -100,6 +101,7 @@ fn add_file(rt: &HostRuntime, before: Adding, file: usize) -> io::Result<Option<
     let Some(mut input) = system::open(rt, b"summary: ", file) else {
         return Ok(None);
     };
+    // A loop has to end, and nothing says that the input does.
     for _ in 0..u64::MAX {
         input = system::fill(rt, input, program, &mut piece);
         let waiting = &piece[input.from..input.to];

@@ -257,11 +257,6 @@ pub fn pass(input: Input, taken: usize) -> Input
     Input { from, ..input }
 }
 
-// The input is read no more. (Hundreds of files may follow.)
-pub fn shut(input: Input) {
-    drop(input);
-}
-
 // Why a write failed, if it did. An `Err` where nobody reads what is written: the runtime keeps the system's signal away, which
 // would have ended the program there.
 fn failure(written: io::Result<()>) -> io::Result<Option<Error>>
@@ -368,7 +363,7 @@ fn quarters(time: Duration) -> u64 {
         >> 18
 }
 
-// Whether a quarter of a second has passed: 2^18 microseconds.
+// Sets `due` where a quarter of a second has passed, which is 2^18 microseconds here; on no terminal it does nothing.
 pub fn tick(rt: &impl CpuClock, pace: &mut Pace) {
     if pace.terminal.is_none() {
         return;
@@ -382,7 +377,7 @@ pub fn tick(rt: &impl CpuClock, pace: &mut Pace) {
 }
 
 // What `summary` says before a message about a file: `summary: FILE: `.
-// Stays: a name of any length in fixed memory, so a buffer with its length beside.
+// Stays: a name of up to 4096 bytes is copied into fixed memory, so a buffer with its length beside.
 #[derive(Clone, Copy)]
 pub struct Label {
     pub bytes: [u8; 8192],

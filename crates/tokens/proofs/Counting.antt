@@ -15,7 +15,7 @@ use Rattle.tokens.specs.Walks.{Numbers, FirstWrong}
 
 -- the numbers of the first i words stand in the array, and the other words decide the rest
 pub record Sofar (ws : List (List ℕ)) (mosts values : List ℕ) (rest : List (List ℕ)) (i : ℕ) : Type 0 where
-  pub size : length values ≡ length mosts
+  pub size : length mosts ≤ length values
   pub left : drop i ws ≡ rest
   pub judged : wrong 1 mosts ws ≡ wrong (i + 1) (drop i mosts) rest
   pub read : (k : ℕ) → k < i → get_or values k 0 ≡ nth k ws
@@ -27,10 +27,10 @@ zeros-at (suc n) zero = refl
 zeros-at (suc n) (suc k) = zeros-at n k
 
 -- nothing read yet
-pub sofar-none : (ws : List (List ℕ)) (mosts : List ℕ) (n : ℕ) → length mosts ≡ n → Sofar ws mosts (replicate n 0) ws 0
+pub sofar-none : (ws : List (List ℕ)) (mosts : List ℕ) (n : ℕ) → length mosts ≤ n → Sofar ws mosts (replicate n 0) ws 0
 sofar-none ws mosts n e =
     record {
-      size = length-replicate n 0 ∙ sym e;
+      size = omega (arith, e, length-replicate {A = ℕ} n 0);
       left = refl;
       judged = refl;
       read = λ k b. absurd (omega arith);
@@ -55,7 +55,7 @@ module _ {ws : List (List ℕ)} {mosts values : List ℕ} {rest : List (List ℕ
       let here : drop i ws ≡ first_word rest ∷ other_words rest = so.left ∙ s in
       let zero_more : i + 0 ≡ i = omega arith in
       record {
-        size = length-set values i v ∙ so.size;
+        size = omega (arith, so.size, length-set values i v);
         left = sym (drop-drop 1 i ws) ∙ ap (drop 1) here;
         judged = so.judged ∙ ap (λ t. wrong (i + 1) t rest) (drop-cons mosts i 0 h) ∙ ap (wrong (i + 1) (get_or mosts i 0 ∷ drop (suc i) mosts)) s ∙ rw (f, add-one i);
         read = λ n b.

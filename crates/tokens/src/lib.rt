@@ -52,7 +52,7 @@ fn is_digit(b: u8) -> bool
     b.is_ascii_digit()
 }
 
-// A word as a number that is at most so large. Wide, so that no step can wrap.
+// A digit behind a number. Wide, so that no step can wrap.
 fn behind(v: u32, b: u8) -> u64
     requires { 48 ≤ b }
     ensures { result ≡ v * 10 + (b - 48) }
@@ -60,6 +60,7 @@ fn behind(v: u32, b: u8) -> u64
     u64::from(v) * 10 + u64::from(b - 48)
 }
 
+// A word as a number that is at most so large.
 pub fn read_number(word: &[u8], most: u32) -> Option<u32>
     ensures value { result ≡ cond (fits most word.now) (Some (value 0 word.now)) None }
     ensures upper_bound { IfSome result (λ v. v ≤ most) }
@@ -81,14 +82,15 @@ pub fn read_number(word: &[u8], most: u32) -> Option<u32>
     Some(value)
 }
 
-// The numbers that the words of a text are, one for each limit and no more; or which of the words is wrong, counted from 1.
-pub fn read_numbers<const N: usize>(text: &[u8], mosts: &[u32; N]) -> Result<[u32; N], usize>
-    requires { N ≤ 7 }
+// The numbers that the words of a text are, one for each limit and no more, at the front of an array; or which of the words is
+// wrong, counted from 1.
+pub fn read_numbers<const N: usize>(text: &[u8], mosts: &[u32]) -> Result<[u32; N], usize>
+    requires { length mosts.now ≤ N }
     ensures { MatchResult result (λ values. Numbers (words text.now) mosts.now values) (λ n. FirstWrong (words text.now) mosts.now n) }
 {
     let mut values = [0; N];
     let mut rest = text;
-    for i in 0..N {
+    for i in 0..mosts.len() {
         let (word, behind) = next(rest);
         let Some(value) = read_number(word, mosts[i]) else {
             return Err(i + 1);
@@ -100,6 +102,6 @@ pub fn read_numbers<const N: usize>(text: &[u8], mosts: &[u32; N]) -> Result<[u3
     if is_empty(more) {
         Ok(values)
     } else {
-        Err(N + 1)
+        Err(mosts.len() + 1)
     }
 }

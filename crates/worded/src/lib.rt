@@ -29,7 +29,8 @@ fn name_of(event: Event) -> Option<u32>
     }
 }
 
-// The next record's; none where there is no whole one.
+// The id and the size of the record at a place; no id and 0 bytes where there is no whole one.
+// Stays: 0 and no Option, since `put_rows` then goes on from the same place, as its definition `size_read` has it.
 fn next_name(bytes: &[u8], at: usize) -> Name
     ensures { (result.id ≡ id_read (read_from (drop at bytes.now))) × (result.size ≡ size_read (read_from (drop at bytes.now))) }
 {

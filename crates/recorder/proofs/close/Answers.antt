@@ -5,7 +5,7 @@ use Rattle.recorder.proofs.close.Goals as goal
 
 pub returns-then-whole : goal.returns-then-whole
 returns-then-whole c =
-    let p = c.put_line-s.ensures in
+    let p = rw c.from-n.ensures at c.put_line-s.ensures in
     let a = c.args in
     let all = closes a.recorder a.held.now a.out.now a.err.now c.if-recorder.true c.if-whole.true (omega arith) p.value p.out_after p.err_after in
     record { value = all.0; out_after = all.1.0; err_after = all.1.1.0; used_in_bounds = all.1.1.1 }

@@ -8,21 +8,23 @@ use Rattle.recorder.proofs.feed_part.Goals as goal
 pub returns-then-from-size : goal.returns-then-from-size
 returns-then-from-size c =
     let a = c.args in
-    let all = does-long a.r a.held.now a.part.now a.used a.out.now a.err.now a.ends c.if-from-size.true c.put_too_long-said.ensures.value c.put_too_long-said.ensures.err_after in
+    let all = does-long a.r a.held.now a.part.now a.used a.out.now a.err.now a.ends (rw c.from-from.ensures at c.if-from-size.true) c.put_too_long-said.ensures.value c.put_too_long-said.ensures.err_after in
     record { value = all.0; held_after = all.1.0; out_after = all.1.1.0; err_after = all.1.1.1 }
 
 pub returns-then-ends : goal.returns-then-ends
 returns-then-ends c =
-    let fits : length c.args.part.now < 65536 - c.args.r.held = let h = c.if-from-size.false in omega (arith, h) in
+    let fits : length c.args.part.now < 65536 - c.args.r.held = let h = rw c.from-from.ensures at c.if-from-size.false in omega (arith, h) in
+    let q = rw c.from-from.ensures at c.put_bytes-end.ensures in
     let a = c.args in
     let p = c.put_line-s.ensures in
     let all = does-line a.r a.held.now a.part.now a.used a.out.now a.err.now c.if-ends.true fits
-    c.put_bytes-end.ensures.value c.put_bytes-end.ensures.out_after p.value p.out_after p.err_after c.add.ensures c.add-then-ends.ensures in
+    q.value q.out_after p.value p.out_after p.err_after c.add.ensures c.add-then-ends.ensures in
     record { value = all.0; held_after = all.1.0; out_after = all.1.1.0; err_after = all.1.1.1 }
 
 pub returns : goal.returns
 returns c =
-    let fits : length c.args.part.now < 65536 - c.args.r.held = let h = c.if-from-size.false in omega (arith, h) in
+    let fits : length c.args.part.now < 65536 - c.args.r.held = let h = rw c.from-from.ensures at c.if-from-size.false in omega (arith, h) in
+    let q = rw c.from-from.ensures at c.put_bytes-end.ensures in
     let a = c.args in
-    let all = does-kept a.r a.held.now a.part.now a.used a.out.now a.err.now c.if-ends.false fits c.put_bytes-end.ensures.value c.put_bytes-end.ensures.out_after in
+    let all = does-kept a.r a.held.now a.part.now a.used a.out.now a.err.now c.if-ends.false fits q.value q.out_after in
     record { value = all.0; held_after = all.1.0; out_after = all.1.1.0; err_after = all.1.1.1 }

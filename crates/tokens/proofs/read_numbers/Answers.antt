@@ -2,6 +2,7 @@
 use Prim.Native.Nat.{◌+◌}
 use mathlib.Core.Path.{◌≡◌, sym, ap, subst, ◌∙◌}
 use native.Mathlib.Omega.{arith}
+use lib.ListN.{length}
 use Rattle.tokens.specs.Tokens.{empty, words}
 use Rattle.tokens.specs.Walks.{FirstWrong}
 use Rattle.tokens.proofs.Judged.{number-some, number-none}
@@ -11,7 +12,7 @@ use Rattle.tokens.proofs.Counting.{sofar-none, sofar-one, stops-here, all_read, 
 use Rattle.tokens.proofs.read_numbers.Goals as goal
 
 pub loop-i-init : goal.loop-i-init
-loop-i-init g c = sofar-none _ _ _ c.told-mosts
+loop-i-init g c = sofar-none _ _ _ c.requires
 
 pub returns-in_default : goal.returns-in_default
 returns-in_default g c =
@@ -31,6 +32,6 @@ returns-then-is_empty g c =
 
 pub returns-else-is_empty : goal.returns-else-is_empty
 returns-else-is_empty g c =
-    let all : c.loop-i.i ≡ g.row.N = omega arith in
+    let all : c.loop-i.i ≡ length c.args.mosts.now = omega arith in
     let a-byte = ap empty (sym c.next-2.ensures.word) ∙ sym c.is_empty.ensures ∙ c.if-is_empty.false in
     subst (λ n. FirstWrong (words c.args.text.now) c.args.mosts.now (n + 1)) all (too_many c.loop-i.invariant (omega arith) a-byte)
