@@ -13,7 +13,8 @@ returns-then-from-size c =
 
 pub returns-then-ends : goal.returns-then-ends
 returns-then-ends c =
-    let fits : length c.args.part.now < 65536 - c.args.r.held = let h = rw c.from-from.ensures at c.if-from-size.false in omega (arith, h) in
+    let h = rw c.from-from.ensures at c.if-from-size.false in
+    let fits : length c.args.part.now < 65536 - c.args.r.held = omega (arith, h) in
     let q = rw c.from-from.ensures at c.put_bytes-end.ensures in
     let a = c.args in
     let p = c.put_line-s.ensures in
@@ -23,7 +24,8 @@ returns-then-ends c =
 
 pub returns : goal.returns
 returns c =
-    let fits : length c.args.part.now < 65536 - c.args.r.held = let h = rw c.from-from.ensures at c.if-from-size.false in omega (arith, h) in
+    let h = rw c.from-from.ensures at c.if-from-size.false in
+    let fits : length c.args.part.now < 65536 - c.args.r.held = omega (arith, h) in
     let q = rw c.from-from.ensures at c.put_bytes-end.ensures in
     let a = c.args in
     let all = does-kept a.r a.held.now a.part.now a.used a.out.now a.err.now c.if-ends.false fits q.value q.out_after in
