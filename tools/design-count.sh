@@ -43,5 +43,5 @@ if point 7; then
 fi
 if point 8; then
     printf '# 8 answer files: %s\n' "$(ls crates/*/proofs/*/Answers.antt crates/*/proofs/*/*/Answers.antt 2>/dev/null | wc -l)"
-    printf '# 8 lines of proofs: %s\n' "$(cat $(find crates -path '*/proofs/*' -name '*.antt') | wc -l)"
+    printf '# 8 lines of proofs: %s\n' "$(cat $(find crates -path '*/proofs/*' -not -path '*/out/*' -name '*.antt') | wc -l)"
 fi
