@@ -204,7 +204,8 @@ first-answers (Some (Asked.Openings k s c most)) b a {text} e f p = ap (λ t. an
     go : (t : Bool) → eqb number 0 ≡ t → text ≡ cond (eqb number 0) rows []
     go true t =
         let z : refused_openings b k ≡ 0 = ap (λ x. x.number) (sym (opened-left b first 0)) ∙ eqb-true number 0 t in
-        parts_all {p = first} (f ∙ ap (λ u. then_some u first) t) p ∙ ap (λ y. openings_text most (left_to y first)) e ∙ ap (openings_text most) (left-whole b first z) ∙ sym (ap (λ u. cond u rows []) t)
+        parts_all {p = first} (f ∙ ap (λ u. then_some u first) t) p
+        ∙ ap (λ y. openings_text most (left_to y first)) e ∙ ap (openings_text most) (left-whole b first z) ∙ sym (ap (λ u. cond u rows []) t)
     go false t = parts_none (f ∙ ap (λ u. then_some u first) t) p ∙ sym (ap (λ u. cond u rows []) t)
 
 -- THE THEOREM: however the input is cut, what is written of it is what `ask` writes of the whole

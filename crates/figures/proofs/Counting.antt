@@ -173,7 +173,8 @@ module _ (v : Verdict) where
       line f k n a b =
           one-came f
           ∙ ap (λ t. cond t 1 0) (same_test {a = (place_of v.fate)} {b = f} {c = k} {d = 1 + (place_of v.fate)} (λ x. omega arith) (λ x. omega arith))
-          ∙ sym (rw (ne_eqb k 0 (λ x. omega arith), ne_eqb k 4 (λ x. omega arith)) (let y : 0 + cond (eqb k (1 + (place_of v.fate))) 1 0 + 0 ≡ cond (eqb k (1 + (place_of v.fate))) 1 0 = omega arith in y))
+          ∙ sym (rw (ne_eqb k 0 (λ x. omega arith), ne_eqb k 4 (λ x. omega arith))
+          (let y : 0 + cond (eqb k (1 + place_of v.fate)) 1 0 + 0 ≡ cond (eqb k (1 + place_of v.fate)) 1 0 = omega arith in y))
 
       go : (k : ℕ) → k < 5 → get_or (1 ∷ came 0 (v ∷ []) ∷ came 1 (v ∷ []) ∷ came 2 (v ∷ []) ∷ (v.waited + 0) ∷ []) k 0 ≡ grows k
       go zero b = rw (ne_eqb 0 (1 + (place_of v.fate)) (λ x. omega arith))

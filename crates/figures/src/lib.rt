@@ -42,6 +42,7 @@ fn fate_of(answer: u32) -> Fate
 }
 
 // Where it stands among them.
+#[tactic(auto, unfolding(crate::specs::Figures::place_of))]
 fn place_of(fate: Fate) -> usize
     ensures { result ≡ place_of fate }
 {

@@ -17,7 +17,8 @@ use Rattle.text.proofs.Meaning.{Digits, decimal-value, decimal-digits}
 use Rattle.tokens.specs.Tokens.{blank, ended, words_on, words, first_word, other_words, same, empty, wrong, nth}
 use Rattle.tokens.proofs.Judged.{fits-decimal, some-digit}
 use Rattle.std.proofs.Common.{Option, Some, Ok}
-use Rattle.lines.specs.Lines.{Line, less_return, hash, bare, planner_of, said_or, plain_line, grid_line, board_line, clock_line, withdraw_line, asks, submit_numbers, submit_behind, submit_line, said_by, says}
+use Rattle.lines.specs.Lines.{Line, less_return, hash, bare, planner_of, said_or, plain_line, grid_line, board_line}
+use Rattle.lines.specs.Lines.{clock_line, withdraw_line, asks, submit_numbers, submit_behind, submit_line, said_by, says}
 use Rattle.promises.specs.Said.{joined, words_of, Wide}
 
 -- no comment and no carriage return among some bytes; no blank besides

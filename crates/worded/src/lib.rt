@@ -17,6 +17,7 @@ struct Name {
     size: usize,
 }
 
+#[tactic(auto, unfolding(events::specs::Records::id_of))]
 fn name_of(event: Event) -> Option<u32>
     ensures { result ≡ id_of event }
 {

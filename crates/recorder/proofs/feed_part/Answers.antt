@@ -8,7 +8,9 @@ use Rattle.recorder.proofs.feed_part.Goals as goal
 pub returns-then-from-size : goal.returns-then-from-size
 returns-then-from-size c =
     let a = c.args in
-    let all = does-long a.r a.held.now a.part.now a.used a.out.now a.err.now a.ends (rw c.from-from.ensures at c.if-from-size.true) c.put_too_long-said.ensures.value c.put_too_long-said.ensures.err_after in
+    let too_long = rw c.from-from.ensures at c.if-from-size.true in
+    let said = c.put_too_long-said.ensures in
+    let all = does-long a.r a.held.now a.part.now a.used a.out.now a.err.now a.ends too_long said.value said.err_after in
     record { value = all.0; held_after = all.1.0; out_after = all.1.1.0; err_after = all.1.1.1 }
 
 pub returns-then-ends : goal.returns-then-ends

@@ -11,4 +11,6 @@ pub returns-clause-put : goal.returns-clause-put
 unfolding stopped_at
 returns-clause-put c =
     let next : c.from.result + 1 ≡ suc c.args.before = omega arith in
-    put_both c.put_bytes-name_at.ensures.put (put_both c.put_bytes-after_name.ensures.put (put_both c.put_bytes-event_at.ensures.put (rw append_assoc at (put_both (rw next at c.put_ended-kind_at.ensures.put) (rw c.from-2.ensures at c.put_ended.ensures.put)))))
+    let numbers = put_both (rw next at c.put_ended-kind_at.ensures.put) (rw c.from-2.ensures at c.put_ended.ensures.put) in
+    let event = put_both c.put_bytes-event_at.ensures.put (rw append_assoc at numbers) in
+    put_both c.put_bytes-name_at.ensures.put (put_both c.put_bytes-after_name.ensures.put event)

@@ -22,7 +22,9 @@ overflow_add-at c =
 pub loop-i-preserved : goal.loop-i-preserved
 loop-i-preserved c =
     let size : c.loop-i.i * 6 + 6 - c.loop-i.i * 6 ≡ 6 = omega arith in
-    rows_more c.loop-i.invariant (omega arith) c.next_name-name.result c.next_name-name.ensures.0 c.next_name-name.ensures.1 (rw size at c.put_row-place.ensures.put) c.put_row-place.ensures.upper_bound (search rules)
+    let name = c.next_name-name.ensures in
+    let row = c.put_row-place.ensures in
+    rows_more c.loop-i.invariant (omega arith) c.next_name-name.result name.0 name.1 (rw size at row.put) row.upper_bound (search rules)
 
 pub shape_of-out : goal.shape_of-out
 shape_of-out c = c.loop-i.invariant.size
