@@ -173,6 +173,11 @@ module _ (b : Board) (n : ℕ) (good : sound_board b ≡ true) {has begun : Bool
       (ap (λ ks. record { number = 0; board = with_tasks b ks })
       (put-index (named n) free_slot b.tasks ∙ ap (λ j. set b.tasks j free_slot) (sym at)))
 
+-- 13, where no live task has the id
+pub withdrawn-nowhere : (b : Board) (n : ℕ) → sound_board b ≡ true → known n b.tasks ≡ false → withdrawn b n ≡ record { number = 13; board = b }
+withdrawn-nowhere b n good e =
+    withdrawn-refused b n good (asked-nowhere b.tasks n false e) (sym (refused-by 13 true _ refl)) (omega arith)
+
 -- where it is not refused, a live task has the id
 pub withdrawn-known : (has begun : Bool) {r : ℕ} → r ≡ refusal (withdraw_tests has begun) → r ≡ 0 → has ≡ true
 withdrawn-known has begun e z = is_true has (not-not has (none-holds 13 (not has) _ (omega arith) (sym e ∙ z)).0)

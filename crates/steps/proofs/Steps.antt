@@ -41,7 +41,7 @@ use Rattle.board.specs.Calls.{or_refused, fresh_board, zero_board, created, subm
 use Rattle.board.specs.Standing.{board_of}
 use Rattle.refusals.proofs.First.{refused-by, passed_over_lem, none-holds}
 use Rattle.board.proofs.Kept.{SoundBoard, submitted-sound, clocked-done, withdrawn-stays-sound, created-sound, zero-unsound}
-use Rattle.board.proofs.Tested.{Asked, clocked-unsound, clocked-refused, slot-begun, withdrawn-unsound, withdrawn-refused, withdrawn-freed}
+use Rattle.board.proofs.Tested.{Asked, asked-nowhere, clocked-unsound, clocked-refused, slot-begun, withdrawn-unsound, withdrawn-refused, withdrawn-freed}
 use Rattle.board.proofs.Submit.{submit-unsound}
 use Rattle.board.proofs.Placed.{BooksAt, placed-books, unplaced-same}
 use Rattle.events.specs.declared.Event.TheVariants.{Clock, Withdraw}
@@ -300,6 +300,11 @@ module _ (d : Brief) (ks : List Task) {rows masks : List ℕ} (k : Keeps d ks ro
     unfolding outcome
     withdraw-refused n a e h =
         ap (λ x. record { answer = bare x.number; state = with_board (state_of ks d) x.board }) (withdrawn-refused b n good a e h)
+
+    -- 13, where no live task has the id
+    pub withdraw-nowhere : (n : ℕ) → Least (λ (i : ℕ). eqb (id_at rows i) n) 0 v.count v.count
+        → outcome (state_of ks d) (Withdraw n) ≡ record { answer = bare 13; state = state_of ks d }
+    withdraw-nowhere n l = withdraw-refused n (asked-nowhere ks n false (nowhere-at n l)) (sym (refused-by 13 true _ refl)) (omega arith)
 
     -- 3 to 10
     pub step-unplaced : (n : ℕ) (a : Submission) (x : Answer) (m : ℕ) → x ≡ (submitted b n a).answer → ((c t e : ℕ) → x ≡ Placed c t e → ⊥) → told x ≡ bare m
