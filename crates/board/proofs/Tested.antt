@@ -8,7 +8,7 @@ use native.Mathlib.Omega.{arith}
 use lib.Dec.{T, ltb, eqb, eqb→eq}
 use lib.ListN.{length, get_or, set}
 use Rattle.lists.specs.Lists.{◌∈◌, some?, index_of}
-use Rattle.lists.proofs.Bools.{and_l, and_r, and_i, same_bool}
+use Rattle.lists.proofs.Bools.{and_l, and_r, and_i, not-not, is_true, same_bool}
 use Rattle.lists.proofs.Members.{some-pass, pass-some, get_or-in, in-keep}
 use Rattle.lists.proofs.Order.{sorted-compare}
 use Rattle.lists.proofs.Append.{index-test, put-index, index-passes}
@@ -18,7 +18,7 @@ use Rattle.tasks.specs.Tasks.{live, waiting_phase, free_slot}
 use Rattle.slots.specs.Slots.{named, known, begun_named, without_named}
 use Rattle.slots.proofs.Soundness.{Sound, Together, sound-out}
 use Rattle.refusals.specs.Refusals.{instant_tests, withdraw_tests}
-use Rattle.refusals.proofs.First.{refused-by, sound-passes, unsound-refused}
+use Rattle.refusals.proofs.First.{refused-by, none-holds, sound-passes, unsound-refused}
 use Rattle.std.proofs.Common.{None, Some}
 use Rattle.std.specs.List.{position}
 use borrow.Author.Tests.{lt-ltb}
@@ -129,18 +129,34 @@ module _ (b : Board) (n slot : ℕ) (good : sound_board b ≡ true) (at : Some s
   pub place-begun : begun_named n b.tasks ≡ not (waiting_phase (get_or b.tasks slot free_slot).phase)
   place-begun = slot-begun b n slot good place.0 below
 
+pub place-nowhere : (b : Board) (n : ℕ) → None ≡ position (named n) b.tasks → known n b.tasks ≡ false
+unfolding known
+place-nowhere b n e = place-none (named n) b.tasks (sym e)
+
+-- WHAT IS ASKED of an id: whether a live task has it, and where one has, whether that has begun
+pub record Asked (ks : List Task) (n : ℕ) (has begun : Bool) : Type 0 where
+  pub there : known n ks ≡ has
+  pub asked : has ≡ true → begun_named n ks ≡ begun
+
+pub asked-there : (b : Board) (n slot : ℕ) → sound_board b ≡ true → Some slot ≡ position (named n) b.tasks
+    → Asked b.tasks n true (not (waiting_phase (get_or b.tasks slot free_slot).phase))
+asked-there b n slot good at = record { there = place-known b n slot good at; asked = λ q. place-begun b n slot good at }
+
+pub asked-nowhere : (ks : List Task) (n : ℕ) (begun : Bool) → known n ks ≡ false → Asked ks n false begun
+asked-nowhere ks n begun e = record { there = e; asked = λ q. cc }
+
 -- THE WITHDRAWAL of a sound board: refused by 13 and 14, or the slot is free. Where no task has the id, whether it has begun is not read
-module _ (b : Board) (n : ℕ) (good : sound_board b ≡ true) {has begun : Bool} (k : known n b.tasks ≡ has)
-    (g : has ≡ true → begun_named n b.tasks ≡ begun) {r : ℕ} (e : r ≡ refusal (withdraw_tests has begun)) where
+module _ (b : Board) (n : ℕ) (good : sound_board b ≡ true) {has begun : Bool} (a : Asked b.tasks n has begun) {r : ℕ}
+    (e : r ≡ refusal (withdraw_tests has begun)) where
   same_tests : (t : Bool) → has ≡ t → refusal (withdraw_tests t (begun_named n b.tasks)) ≡ refusal (withdraw_tests t begun)
-  same_tests true q = ap (λ x. refusal (withdraw_tests true x)) (g q)
+  same_tests true q = ap (λ x. refusal (withdraw_tests true x)) (a.asked q)
   same_tests false q = refused-by 13 true _ refl ∙ sym (refused-by 13 true _ refl)
 
   withdraw-tests : refused_withdraw b n ≡ r
   unfolding refused_withdraw
   withdraw-tests =
       sound-passes (sound_board b) (withdraw_tests (known n b.tasks) (begun_named n b.tasks)) good
-      ∙ ap (λ t. refusal (withdraw_tests t (begun_named n b.tasks))) k ∙ same_tests has refl ∙ sym e
+      ∙ ap (λ t. refusal (withdraw_tests t (begun_named n b.tasks))) a.there ∙ same_tests has refl ∙ sym e
 
   pub withdrawn-refused : 0 < r → withdrawn b n ≡ record { number = r; board = b }
   withdrawn-refused h = go r withdraw-tests h
@@ -160,8 +176,8 @@ module _ (b : Board) (n : ℕ) (good : sound_board b ≡ true) {has begun : Bool
 -- 13, where no live task has the id
 pub withdrawn-nowhere : (b : Board) (n : ℕ) → sound_board b ≡ true → known n b.tasks ≡ false → withdrawn b n ≡ record { number = 13; board = b }
 withdrawn-nowhere b n good e =
-    withdrawn-refused b n good {has = false} {begun = false} e (λ q. cc) (sym (refused-by 13 true _ refl)) (omega arith)
+    withdrawn-refused b n good (asked-nowhere b.tasks n false e) (sym (refused-by 13 true _ refl)) (omega arith)
 
-pub place-nowhere : (b : Board) (n : ℕ) → None ≡ position (named n) b.tasks → known n b.tasks ≡ false
-unfolding known
-place-nowhere b n e = place-none (named n) b.tasks (sym e)
+-- where it is not refused, a live task has the id
+pub withdrawn-known : (has begun : Bool) {r : ℕ} → r ≡ refusal (withdraw_tests has begun) → r ≡ 0 → has ≡ true
+withdrawn-known has begun e z = is_true has (not-not has (none-holds 13 (not has) _ (omega arith) (sym e ∙ z)).0)

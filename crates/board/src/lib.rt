@@ -270,7 +270,7 @@ impl Board {
         }
     }
 
-    // A waiting task withdrawn: 1, 13, 14.
+    // A waiting task withdrawn: 1, 13, 14. Where no live task has the id, whether one has begun is not asked: 13 comes first.
     pub fn withdraw(mut self, id: u32) -> Withdrawn
         ensures { result ≡ withdrawn self id }
     {
@@ -280,19 +280,18 @@ impl Board {
                 board: self,
             };
         }
-        let Some(slot) = slots::slot_named(self.tasks, id) else {
-            return Withdrawn {
-                number: u8::from(Refusal::IdNotLive),
-                board: self,
-            };
+        let found = slots::slot_named(self.tasks, id);
+        let begun = match found {
+            Some(slot) => !tasks::is_waiting(self.tasks[slot]),
+            None => false,
         };
-        let waits = tasks::is_waiting(self.tasks[slot]);
-        if let Err(refusal) = refusals::refuse_withdrawal(true, !waits) {
+        if let Err(refusal) = refusals::refuse_withdrawal(found.is_some(), begun) {
             return Withdrawn {
                 number: u8::from(refusal),
                 board: self,
             };
         }
+        let slot = found.unwrap();
         self.tasks[slot] = tasks::free_slot();
         Withdrawn {
             number: 0,

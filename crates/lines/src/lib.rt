@@ -7,6 +7,7 @@ ghost use Rattle.tokens.specs.Walks.{Numbers};
 ghost use Rattle.lines.specs.Lines.{less_return, bare, planner_of, grid_line, board_line, clock_line, withdraw_line, submit_line, said_by, says};
 
 use events::{Ask, Event};
+use tokens::Sort;
 
 // What kind of line one is by its first word, where that is the name of one.
 #[derive(Clone, Copy, Debug, PartialEq, Eq)]
@@ -40,7 +41,7 @@ pub fn bare(line: &[u8]) -> &[u8]
     ensures { result.now ≡ bare line.now }
 {
     let line = less_return(line);
-    let (front, _) = line.split_at(tokens::find(line, |b| b == b'#'));
+    let (front, _) = line.split_at(tokens::find(line, Sort::Hash));
     front
 }
 

@@ -58,7 +58,7 @@ pub added-small : (n k : ℕ) → n + k ≤ 18446744073709551615 → n + k ≡ a
 unfolding added
 added-small n k h = rw (le-leb (n + k) 18446744073709551615 h)
 
-added-large : (n k : ℕ) → 18446744073709551615 < n + k → 18446744073709551615 ≡ added n k
+pub added-large : (n k : ℕ) → 18446744073709551615 < n + k → 18446744073709551615 ≡ added n k
 unfolding added
 added-large n k h = rw (lt-leb (n + k) 18446744073709551615 h)
 

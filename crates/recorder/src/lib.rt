@@ -13,6 +13,7 @@ ghost use Rattle.recorder.specs.Machine.{step_of, begun, added, part_fed, feedin
 
 use events::Event;
 use lines::{Kind, Wrong};
+use tokens::Sort;
 
 // Where the machine stands: the number of the line that it reads, the records so far, how many bytes of the line are held,
 // whether it goes on.
@@ -390,7 +391,7 @@ pub fn feed(
     let mut said: usize = 0;
     // Stays: no index is counted, a turn takes as many bytes as a part has, and a wrong line ends the run.
     while goes_on(r.more, piece.len() - at, out.len() - used) {
-        let end = at + tokens::find(&piece[at..], |b| b == b'\n');
+        let end = at + tokens::find(&piece[at..], Sort::Newline);
         let p = feed_part(r, held, &piece[at..end], end < piece.len(), out, used, err);
         r = p.recorder;
         at += p.taken;

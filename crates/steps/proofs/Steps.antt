@@ -41,7 +41,7 @@ use Rattle.board.specs.Calls.{or_refused, fresh_board, zero_board, created, subm
 use Rattle.board.specs.Standing.{board_of}
 use Rattle.refusals.proofs.First.{refused-by, passed_over_lem, none-holds}
 use Rattle.board.proofs.Kept.{SoundBoard, submitted-sound, clocked-done, withdrawn-stays-sound, created-sound, zero-unsound}
-use Rattle.board.proofs.Tested.{clocked-unsound, clocked-refused, slot-begun, withdrawn-unsound, withdrawn-nowhere, withdrawn-refused, withdrawn-freed}
+use Rattle.board.proofs.Tested.{Asked, asked-nowhere, clocked-unsound, clocked-refused, slot-begun, withdrawn-unsound, withdrawn-refused, withdrawn-freed}
 use Rattle.board.proofs.Submit.{submit-unsound}
 use Rattle.board.proofs.Placed.{BooksAt, placed-books, unplaced-same}
 use Rattle.events.specs.declared.Event.TheVariants.{Clock, Withdraw}
@@ -248,20 +248,13 @@ module _ (d : Brief) (ks : List Task) {rows masks : List ℕ} (k : Keeps d ks ro
       known-there : known n ks ≡ true
       known-there = known_at n p l ∙ lt-ltb p v.count h
 
-      -- 14
-      pub withdraw-refused : {r : ℕ} → r ≡ refusal (withdraw_tests true (leb (from_at rows p) d.clock)) → 0 < r
-          → outcome (state_of ks d) (Withdraw n) ≡ record { answer = bare r; state = state_of ks d }
-      unfolding outcome
-      withdraw-refused e q =
-          ap (λ x. record { answer = bare x.number; state = with_board (state_of ks d) x.board }) (withdrawn-refused b n good known-there (λ t. begun-at) e q)
-
       -- WITHDRAWN
-      pub step-withdraw : {r : ℕ} → r ≡ refusal (withdraw_tests true (leb (from_at rows p) d.clock)) → r ≡ 0
+      pub step-withdraw : {has begun : Bool} → Asked ks n has begun → {r : ℕ} → r ≡ refusal (withdraw_tests has begun) → r ≡ 0
           → {next words : List ℕ} → Closed 6 v.count p rows next → Closed 4 v.count p masks words → (used : ℕ)
           → ((j : ℕ) → j < 64 → bit used j ≡ (bit v.used j && not (eqb j slot)))
           → Follows d ks (outcome (state_of ks d) (Withdraw n)) (numbered 0 (with_live d d.clock (v.count - 1) used) (Freed slot)) next words
       unfolding outcome changed
-      step-withdraw {r} e q {next} {words} c w used f =
+      step-withdraw a {r} e q {next} {words} c w used f =
           subst (λ x. Follows d ks x (numbered 0 (with_live d d.clock (v.count - 1) used) (Freed slot)) next words)
           (sym (ap (λ x. record { answer = bare x.number; state = with_board (state_of ks d) x.board }) gone))
           (record {
@@ -287,20 +280,31 @@ module _ (d : Brief) (ks : List Task) {rows masks : List ℕ} (k : Keeps d ks ro
           })
         where
           gone : withdrawn b n ≡ record { number = 0; board = board_of (set ks slot free_slot) d.clock d.device }
-          gone = withdrawn-freed b n good known-there (λ t. begun-at) e slot_is q
+          gone = withdrawn-freed b n good a e slot_is q
 
           after : sound d.device d.clock (set ks slot free_slot) ≡ true
           after =
               is_true (sound d.device d.clock (set ks slot free_slot))
               (sound-in d.device d.clock (set ks slot free_slot) (subst (λ x. SoundBoard x.board) gone (withdrawn-stays-sound b n stands)))
 
-    -- 13
+    -- so of what is asked of an id
+    pub asked-at : (n p : ℕ) → Least (λ (i : ℕ). eqb (id_at rows i) n) 0 v.count p → p < v.count → Asked ks n true (leb (from_at rows p) d.clock)
+    asked-at n p l h = record { there = known-there n p l h; asked = λ q. begun-at n p l h }
+
+    pub nowhere-at : (n : ℕ) → Least (λ (i : ℕ). eqb (id_at rows i) n) 0 v.count v.count → known n ks ≡ false
+    nowhere-at n l = known_at n v.count l ∙ le-ltb v.count v.count (omega arith)
+
+    -- 13, 14
+    pub withdraw-refused : (n : ℕ) {has begun : Bool} → Asked ks n has begun → {r : ℕ} → r ≡ refusal (withdraw_tests has begun) → 0 < r
+        → outcome (state_of ks d) (Withdraw n) ≡ record { answer = bare r; state = state_of ks d }
+    unfolding outcome
+    withdraw-refused n a e h =
+        ap (λ x. record { answer = bare x.number; state = with_board (state_of ks d) x.board }) (withdrawn-refused b n good a e h)
+
+    -- 13, where no live task has the id
     pub withdraw-nowhere : (n : ℕ) → Least (λ (i : ℕ). eqb (id_at rows i) n) 0 v.count v.count
         → outcome (state_of ks d) (Withdraw n) ≡ record { answer = bare 13; state = state_of ks d }
-    unfolding outcome
-    withdraw-nowhere n l =
-        ap (λ x. record { answer = bare x.number; state = with_board (state_of ks d) x.board })
-        (withdrawn-nowhere b n good (known_at n v.count l ∙ le-ltb v.count v.count (omega arith)))
+    withdraw-nowhere n l = withdraw-refused n (asked-nowhere ks n false (nowhere-at n l)) (sym (refused-by 13 true _ refl)) (omega arith)
 
     -- 3 to 10
     pub step-unplaced : (n : ℕ) (a : Submission) (x : Answer) (m : ℕ) → x ≡ (submitted b n a).answer → ((c t e : ℕ) → x ≡ Placed c t e → ⊥) → told x ≡ bare m

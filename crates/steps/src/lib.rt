@@ -144,7 +144,7 @@ fn clock<'a>(live: &'a Live, masks: &'a Masks, d: Brief, instant: u32) -> Done
     )
 }
 
-// A waiting task withdrawn.
+// A waiting task withdrawn. Where no live task has the id, whether one has begun is not asked: 13 comes first.
 fn withdraw<'a>(live: &'a mut Live, masks: &'a mut Masks, d: Brief, id: u32) -> Done
     requires { Has d live.old masks.old }
     ensures { (ks : List Task) → Keeps d ks live.old masks.old → Follows d ks (outcome (state_of ks d) (Withdraw id)) result live.new masks.new }
@@ -152,13 +152,15 @@ fn withdraw<'a>(live: &'a mut Live, masks: &'a mut Masks, d: Brief, id: u32) -> 
     let Some(v) = d.found else {
         return bare(u8::from(Refusal::Unsound), d, Change::Nothing);
     };
-    let Some(i) = keeping::find(live, v.count, id) else {
-        return bare(u8::from(Refusal::IdNotLive), d, Change::Nothing);
+    let place = keeping::find(live, v.count, id);
+    let begun = match place {
+        Some(i) => live[live::FROM + i] <= d.clock,
+        None => false,
     };
-    let begun = live[live::FROM + i] <= d.clock;
-    if let Err(refusal) = refusals::refuse_withdrawal(true, begun) {
+    if let Err(refusal) = refusals::refuse_withdrawal(place.is_some(), begun) {
         return bare(u8::from(refusal), d, Change::Nothing);
     }
+    let i = place.unwrap();
     let slot = live[live::SLOT + i];
     keeping::remove(live, masks, v.count, i);
     let left = Findings {

@@ -114,6 +114,8 @@ fn add_file(rt: &HostRuntime, before: Adding, file: usize) -> io::Result<Option<
     if input.failed {
         return Ok(None);
     }
+    // The text is read no more: who writes it may have to know, before standard error takes what is said of it.
+    drop(input);
     let end = adding::end_text(a);
     if adding::goes_on(end) {
         return Ok(Some(end));

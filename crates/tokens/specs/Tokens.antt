@@ -2,10 +2,19 @@
 use Rattle.std.specs.Prelude.{ℕ, ◌+◌, Bool, true, false, cond, not, ◌&&◌, ◌||◌, List, [], ◌∷◌, ◌++◌, leb, eqb, get_or}
 use Rattle.lists.specs.Lists.{all?}
 use Rattle.text.specs.Text.{value}
+use Rattle.tokens.specs.declared.Sort.{Sort}
+use Rattle.tokens.specs.declared.Sort.TheVariants.{Blank, Solid, Hash, Newline}
 
 -- "words parted by spaces or tabs"
 abbrev pub blank : ℕ → Bool
 blank b = eqb b 32 || eqb b 9
+
+-- what a search stops at: a blank; a byte that is none; "a # begins a comment"; the end of a line
+unfoldable pub stops_at : Sort → ℕ → Bool
+stops_at Blank b = blank b
+stops_at Solid b = not (blank b)
+stops_at Hash b = eqb b 35
+stops_at Newline b = eqb b 10
 
 -- a word that has ended before some others; a word has a byte
 unfoldable pub ended : List ℕ → List (List ℕ) → List (List ℕ)

@@ -1,11 +1,20 @@
 // The words of a line or of a question, and the numbers that they are.
 #![tactic(auto)]
 
-ghost use Rattle.std.specs.Prelude.{◌≡◌, ℕ, Bool, [], ◌++◌, cond, ◌+◌, ◌-◌, ◌*◌, ◌≤◌, length, Some, None, IfSome, MatchResult};
+ghost use Rattle.std.specs.Prelude.{◌≡◌, [], ◌++◌, cond, ◌+◌, ◌-◌, ◌*◌, ◌≤◌, length, Some, None, IfSome, MatchResult};
 ghost use Rattle.lists.specs.Lists.{index_of};
 ghost use Rattle.text.specs.Text.{value};
-ghost use Rattle.tokens.specs.Tokens.{blank, words, first_word, other_words, same, digit, empty, fits};
+ghost use Rattle.tokens.specs.Tokens.{blank, stops_at, words, first_word, other_words, same, digit, empty, fits};
 ghost use Rattle.tokens.specs.Walks.{Numbers, FirstWrong};
+
+// What a search stops at.
+#[derive(Clone, Copy)]
+pub enum Sort {
+    Blank,
+    Solid,
+    Hash,
+    Newline,
+}
 
 fn is_blank(b: u8) -> bool
     ensures { result ≡ blank b }
@@ -13,14 +22,27 @@ fn is_blank(b: u8) -> bool
     (b == b' ') | (b == b'\t')
 }
 
-// Where the first byte stands that the search stops at; the length where there is none. The search stops where `stops` says so:
-// whatever test of a byte that is, the answer is by that test.
-pub fn find<F: Fn(u8) -> bool>(text: &[u8], stops: F) -> usize
-    requires { F.IsAlwaysCallable stops }
-    ensures value { (test : ℕ → Bool) → ((b : ℕ) (r : Bool) → F.post stops b r → r ≡ test b) → result ≡ index_of test text.now }
+#[tactic(auto, unfolding(crate::specs::Tokens::stops_at))]
+fn stops(sort: Sort, b: u8) -> bool
+    ensures { result ≡ stops_at sort b }
+{
+    match sort {
+        Sort::Blank => is_blank(b),
+        Sort::Solid => !is_blank(b),
+        Sort::Hash => b == b'#',
+        Sort::Newline => b == b'\n',
+    }
+}
+
+// Where the first byte stands at which the search stops; the length where there is none.
+// Stays: the test is a value and no closure, since a closure has to be callable, and this function asks nothing of its callers.
+pub fn find(text: &[u8], sort: Sort) -> usize
+    ensures value { result ≡ index_of (stops_at sort) text.now }
     ensures upper_bound { result ≤ length text.now }
 {
-    text.iter().position(|b| stops(*b)).unwrap_or(text.len())
+    text.iter()
+        .position(|b| stops(sort, *b))
+        .unwrap_or(text.len())
 }
 
 // The first word of a text, and what stands behind it; no byte where there is no word.
@@ -30,8 +52,8 @@ pub fn next(text: &[u8]) -> (&[u8], &[u8])
     ensures parts { (before : _) × (text.now ≡ before ++ (result.0.now ++ result.1.now)) }
     ensures last { result.0.now ≡ [] → result.1.now ≡ [] }
 {
-    let (_, solid) = text.split_at(find(text, |b| !is_blank(b)));
-    solid.split_at(find(solid, |b| is_blank(b)))
+    let (_, solid) = text.split_at(find(text, Sort::Solid));
+    solid.split_at(find(solid, Sort::Blank))
 }
 
 pub fn is_empty(word: &[u8]) -> bool
