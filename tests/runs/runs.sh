@@ -216,22 +216,6 @@ status 1" "$(printf 'board 4\n' | tell $run record)"
 check "record, a last line without a line feed" " 03 02 00 00 00" "$(printf 'clock 2' | $run record | od -An -tx1)"
 check "record, a byte order mark and CR LF" " 03 02 00 00 00" "$(printf '\357\273\277clock 2\r\n' | $run record | od -An -tx1)"
 
-# A text that is refused is closed before standard error is told of it: who writes the text may be whom standard error waits for.
-# (`./run` reads standard error by itself, so this asks the program.)
-if [ -x crates/summary/out/summary ]; then
-    mkfifo "$work/text" "$work/told"
-    exec 8<>"$work/told"
-    dd if=/dev/zero of="$work/told" bs=1024 count=4096 oflag=nonblock 2>/dev/null || true
-    { yes x >"$work/text" 2>/dev/null || true; exec cat <&8 >/dev/null; } &
-    reader=$!
-    status=0
-    timeout 20 crates/summary/out/summary --add "$work/text" 2>&8 || status=$?
-    kill $reader 2>/dev/null || true
-    wait $reader 2>/dev/null || true
-    exec 8>&-
-    check "summary --add, a text that is refused is closed before it is told" 0 "$status"
-fi
-
 # many events, and a slow pipe
 { echo "board 1 1"; yes "clock 0" | head -n 300000 || true; } | $run record >"$work/many"
 check "300,001 events" "300002 300001 3 0 0 0 0" "$($run plan "$work/many" | awk 'END { print NR, $0 }')"
@@ -352,6 +336,21 @@ status 1" "$(tell $run summary --add "$work/large.sum" "$work/laxity.sum")"
 check "summary --add, nothing" "!
 summary: -: line 1 is not what a summary that ends in 'stop end' has there
 status 1" "$(tell $run summary --add </dev/null)"
+# A text that is refused is closed before standard error is told of it: who writes the text may be whom standard error waits for.
+# (`./run`, which has built it by now, reads standard error by itself, so this asks the program.)
+if [ -x crates/summary/out/summary ]; then
+    mkfifo "$work/text" "$work/told"
+    exec 8<>"$work/told"
+    dd if=/dev/zero of="$work/told" bs=1024 count=4096 oflag=nonblock 2>/dev/null || true
+    { yes x >"$work/text" 2>/dev/null || true; exec cat <&8 >/dev/null; } &
+    reader=$!
+    status=0
+    timeout 20 crates/summary/out/summary --add "$work/text" 2>&8 || status=$?
+    kill $reader 2>/dev/null || true
+    wait $reader 2>/dev/null || true
+    exec 8>&-
+    check "summary --add, a text that is refused is closed before it is told" 0 "$status"
+fi
 # how far it is: on a terminal, and nowhere else
 {
     echo "board 256 1"

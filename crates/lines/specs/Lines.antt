@@ -4,7 +4,8 @@ use Rattle.lists.specs.Lists.{index_of, last_or}
 use Rattle.events.specs.declared.Event.{Event}
 use Rattle.events.specs.declared.Event.TheVariants.{NewBoard, Submit, Clock, Withdraw, GridBoard}
 use Rattle.text.specs.Text.{ascii, value}
-use Rattle.tokens.specs.Tokens.{words, first_word, other_words, same, empty, fits, wrong, nth}
+use Rattle.tokens.specs.declared.Sort.TheVariants.{Hash}
+use Rattle.tokens.specs.Tokens.{stops_at, words, first_word, other_words, same, empty, fits, wrong, nth}
 use Rattle.lines.specs.declared.Kind.{Kind}
 use Rattle.lines.specs.declared.Kind.TheVariants.{Unnamed, Board as OfBoard, Submit as OfSubmit, Clock as OfClock, Withdraw as OfWithdraw}
 use Rattle.lines.specs.declared.Wrong.{Wrong}
@@ -20,13 +21,9 @@ wrong_line kind word = Err (record { kind = kind; word = word })
 unfoldable pub less_return : List ℕ → List ℕ
 less_return line = cond (eqb (last_or 0 line) 13) (take (length line - 1) line) line
 
--- "a # begins a comment"
-abbrev pub hash : ℕ → Bool
-hash b = eqb b 35
-
--- what stands before it
+-- "a # begins a comment": what stands before it
 unfoldable pub bare : List ℕ → List ℕ
-bare line = take (index_of hash (less_return line)) (less_return line)
+bare line = take (index_of (stops_at Hash) (less_return line)) (less_return line)
 
 -- "planner by name, reference, horizon, stuffing, full, or by number 0 to 255"
 unfoldable pub planner_of : List ℕ → Option ℕ

@@ -14,10 +14,11 @@ use Rattle.events.specs.declared.Event.{Event}
 use Rattle.events.specs.declared.Event.TheVariants.{NewBoard, Submit, Clock, Withdraw, GridBoard}
 use Rattle.text.specs.Text.{ascii, decimal}
 use Rattle.text.proofs.Meaning.{Digits, decimal-value, decimal-digits}
-use Rattle.tokens.specs.Tokens.{blank, ended, words_on, words, first_word, other_words, same, empty, wrong, nth}
+use Rattle.tokens.specs.declared.Sort.TheVariants.{Hash}
+use Rattle.tokens.specs.Tokens.{blank, stops_at, ended, words_on, words, first_word, other_words, same, empty, wrong, nth}
 use Rattle.tokens.proofs.Judged.{fits-decimal, some-digit}
 use Rattle.std.proofs.Common.{Option, Some, Ok}
-use Rattle.lines.specs.Lines.{Line, less_return, hash, bare, planner_of, said_or, plain_line, grid_line, board_line}
+use Rattle.lines.specs.Lines.{Line, less_return, bare, planner_of, said_or, plain_line, grid_line, board_line}
 use Rattle.lines.specs.Lines.{clock_line, withdraw_line, asks, submit_numbers, submit_behind, submit_line, said_by, says}
 use Rattle.promises.specs.Said.{joined, words_of, Wide}
 
@@ -69,8 +70,8 @@ clear-joined [] none = tt
 clear-joined (w ∷ []) (more x none) = x.clear
 clear-joined (w ∷ v ∷ ws) (more x e) = clear_both w (32 ∷ joined (v ∷ ws)) x.clear (refl, refl, clear-joined (v ∷ ws) e)
 
-no-comment : (l : List ℕ) → Clear l → index_of hash l ≡ length l
-unfolding Clear index_of
+no-comment : (l : List ℕ) → Clear l → index_of (stops_at Hash) l ≡ length l
+unfolding Clear index_of stops_at
 no-comment [] p = refl
 no-comment (b ∷ bs) p = rw (p.0, no-comment bs p.2, add-one (length bs))
 

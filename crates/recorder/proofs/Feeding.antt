@@ -12,6 +12,8 @@ use lib.ListN.{length, take, drop, set, length-append}
 use lib.Seq.{sets, sets-eq, length-sets}
 use Rattle.lists.specs.Lists.{index_of, over_front}
 use Rattle.text.specs.Digits.{Put}
+use Rattle.tokens.specs.declared.Sort.TheVariants.{Newline}
+use Rattle.tokens.specs.Tokens.{stops_at}
 use Rattle.recorder.specs.declared.Recorder.{Recorder}
 use Rattle.recorder.specs.declared.Fed.{Fed}
 use Rattle.recorder.specs.declared.Step.{Step}
@@ -166,16 +168,12 @@ module _ (r : Recorder) (held out err : List ℕ) where
       let said_fits : s.said ≤ length err' = rw (e, k, p, k) (front_long (line_made r.line r.records (take r.held held)).output.err err) in
       rw (m, t) (rw (e, k) refl, (rw k at o ∙ front, (rw k at p, (used-fits, said_fits))))
 
--- a line feed
-abbrev pub newline : ℕ → Bool
-newline b = eqb b 10
-
 -- THE PARTS OF A TEXT: up to the first line feed, and what is behind it
 abbrev first : List ℕ → ℕ
-first xs = index_of newline xs
+first xs = index_of (stops_at Newline) xs
 
 pub lines-on : (begun xs : List ℕ) → ltb (first xs) (length xs) ≡ true → lines_on begun xs ≡ (begun ++ take (first xs) xs) ∷ lines_on [] (drop (first xs + 1) xs)
-unfolding lines_on index_of
+unfolding lines_on index_of stops_at
 lines-on begun [] h = absurd (let z : 0 < 0 = ltb-true 0 0 h in omega arith)
 lines-on begun (x ∷ xs) h = go (λ b k. lines-on b xs k) (eqb x 10) h
   where
@@ -190,7 +188,7 @@ lines-on begun (x ∷ xs) h = go (λ b k. lines-on b xs k) (eqb x 10) h
         rw (two, more (begun ++ (x ∷ [])) (lt-ltb _ _ less), add-one (first xs)) (ap (λ t. t ∷ lines_on [] (drop (suc (first xs)) xs)) (append_assoc begun (x ∷ []) (take (first xs) xs)))
 
 pub lines-last : (begun xs : List ℕ) → length xs ≤ first xs → lines_on begun xs ≡ (begun ++ xs) ∷ []
-unfolding lines_on index_of
+unfolding lines_on index_of stops_at
 lines-last begun [] h = ap (λ t. t ∷ []) (sym (append-nil begun))
 lines-last begun (x ∷ xs) h = go (λ b k. lines-last b xs k) (eqb x 10) h
   where

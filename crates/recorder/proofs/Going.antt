@@ -12,12 +12,14 @@ use Rattle.lists.specs.Lists.{index_of, over_front}
 use Rattle.lists.proofs.Stores.{sets-append}
 use Rattle.text.specs.Output.{Output, nothing, before}
 use Rattle.recorder.proofs.Reading.{part, onward}
+use Rattle.tokens.specs.declared.Sort.TheVariants.{Newline}
+use Rattle.tokens.specs.Tokens.{stops_at}
 use Rattle.recorder.specs.declared.Recorder.{Recorder}
 use Rattle.recorder.specs.declared.Fed.{Fed}
 use Rattle.recorder.specs.Recorder.{lines_on}
 use Rattle.recorder.specs.Machine.{Feeding, part_fed, after, goes_on, parts_fed, taking_all, unfed, feeding, fed_of}
 use Rattle.recorder.proofs.Feeding.{Parted, parted, part-quiet, part-short, part-few, part-most, part-all, part-some, Does, sets-front, front_long}
-use Rattle.recorder.proofs.Feeding.{newline, lines-on, lines-last, parts-stop, parts_last, parts_more, parts-end}
+use Rattle.recorder.proofs.Feeding.{lines-on, lines-last, parts-stop, parts_last, parts_more, parts-end}
 
 -- both hold, the first does not, the second does not
 both_l : (a b : Bool) → (a && b) ≡ true → a ≡ true
@@ -87,12 +89,12 @@ module _ {r₀ : Recorder} {held₀ piece out₀ err₀ held out err : List ℕ}
     goes : goes_on (length out₀) (standing r held at g.acc) ≡ true
     goes = rw (more-is) (le-leb 18 (length out₀ - length g.acc.out) (omega (arith, room-left, same-room, g.count)))
 
-    module _ (end : ℕ) (found : end ≡ at + index_of newline (part at (length piece) piece)) (most : end ≤ length piece) where
+    module _ (end : ℕ) (found : end ≡ at + index_of (stops_at Newline) (part at (length piece) piece)) (most : end ≤ length piece) where
       abbrev text : List ℕ
       text = drop at piece
 
       abbrev first : ℕ
-      first = index_of newline text
+      first = index_of (stops_at Newline) text
 
       abbrev fed : Feeding
       fed = part_fed r held (part at end piece) (ltb end (length piece))
@@ -101,7 +103,7 @@ module _ {r₀ : Recorder} {held₀ piece out₀ err₀ held out err : List ℕ}
       how = parted r held (part at end piece) (ltb end (length piece))
 
       is-first : end ≡ at + first
-      is-first = found ∙ ap (λ t. at + index_of newline t) (onward piece at)
+      is-first = found ∙ ap (λ t. at + index_of (stops_at Newline) t) (onward piece at)
 
       size : length text ≡ length piece - at
       size = length-drop at piece

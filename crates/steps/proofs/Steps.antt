@@ -392,7 +392,8 @@ module _ (d : Brief) (ks : List Task) {rows masks : List ℕ} (k : Keeps d ks ro
   nothing = record { count = 0; used = 0 }
 
   step-empty : (n : ℕ) (D : Device) (well : Option Findings) (o : Outcome) → o ≡ record { answer = bare n; state = with_board (state_of ks d) (fresh_board D) }
-      → ((y : Findings) → well ≡ Some y → y ≡ nothing) → sound D 0 (replicate 64 free_slot) ≡ is_some well → replicate 64 free_slot ≡ as_booked (emptied D well) (replicate 64 free_slot)
+      → ((y : Findings) → well ≡ Some y → y ≡ nothing) → sound D 0 (replicate 64 free_slot) ≡ is_some well
+      → replicate 64 free_slot ≡ as_booked (emptied D well) (replicate 64 free_slot)
       → Follows d ks o (numbered n (emptied D well) Cleared) rows masks
   unfolding fresh_board changed
   step-empty n D well o e zeros g m =
@@ -409,9 +410,11 @@ module _ (d : Brief) (ks : List Task) {rows masks : List ℕ} (k : Keeps d ks ro
           size = k.size;
           wide = k.wide;
           good = g;
-          kept = λ y z. subst (λ r. Kept D 0 (replicate 64 free_slot) r.count rows) (sym (zeros y z)) (record { good = g ∙ ap is_some z; stands = no-tasks rows; falling = λ i j l h. absurd (omega arith) });
+          kept = λ y z. subst (λ r. Kept D 0 (replicate 64 free_slot) r.count rows) (sym (zeros y z))
+              (record { good = g ∙ ap is_some z; stands = no-tasks rows; falling = λ i j l h. absurd (omega arith) });
           masked = λ y z. subst (λ r. Masked r.count rows masks) (sym (zeros y z)) (record { share = λ q i j a h. absurd (omega arith) });
-          used = λ y z. subst (λ r. InUse 64 (replicate 64 free_slot) r.used) (sym (zeros y z)) (use-in (replicate 64 free_slot) 0 (λ j h. bit-of-zero j ∙ sym (ap live (get_or-replicate 64 j free_slot free_slot h))));
+          used = λ y z. subst (λ r. InUse 64 (replicate 64 free_slot) r.used) (sym (zeros y z))
+              (use-in (replicate 64 free_slot) 0 (λ j h. bit-of-zero j ∙ sym (ap live (get_or-replicate 64 j free_slot free_slot h))));
         };
         inside = omega arith;
         records = λ tasks v w. m;
@@ -421,7 +424,8 @@ module _ (d : Brief) (ks : List Task) {rows masks : List ℕ} (k : Keeps d ks ro
   pub step-new : (W H g : ℕ) → device_fits (device W H g) ≡ true → Follows d ks (board_outcome (state_of ks d) W H g) (numbered 0 (emptied (device W H g) (Some nothing)) Cleared) rows masks
   unfolding fresh_board
   step-new W H g fits =
-      step-empty 0 D (Some nothing) (board_outcome (state_of ks d) W H g) (ap (λ x. record { answer = bare x.number; state = with_board (state_of ks d) x.board }) (created-done W H g fits)) (λ y z. cc)
+      step-empty 0 D (Some nothing) (board_outcome (state_of ks d) W H g)
+      (ap (λ x. record { answer = bare x.number; state = with_board (state_of ks d) x.board }) (created-done W H g fits)) (λ y z. cc)
       (is_true (sound D 0 (replicate 64 free_slot)) (sound-in D 0 (replicate 64 free_slot) fresh)) (sym (aged-now D 0 (replicate 64 free_slot) fresh))
     where
       D : Device

@@ -1,25 +1,15 @@
 -- `recorder::feed` meets its contract: each turn takes a part of the piece. Assumes nothing.
-use Prim.Native.Nat.{ℕ, ◌+◌, ◌-◌, ◌≤◌, ◌<◌}
+use Prim.Native.Nat.{◌+◌, ◌-◌, ◌≤◌, ◌<◌}
 use mathlib.Core.Path.{◌≡◌, refl, sym, ap, ◌∙◌}
 use mathlib.Core.Bool.{true, false}
-use mathlib.Core.List.{List}
 use native.Mathlib.Omega.{arith}
 use lib.ListN.{length, length-drop}
-use Rattle.lists.specs.Lists.{index_of}
-use Rattle.tokens.specs.declared.Sort.TheVariants.{Newline}
-use Rattle.tokens.specs.Tokens.{stops_at}
-use Rattle.recorder.proofs.Feeding.{newline}
 use Rattle.recorder.proofs.Reading.{onward}
 use Rattle.recorder.proofs.Going.{turns, going-none, same-room, some_left, room-left, going_more, goes_further, going_done}
 use borrow.Author.Rules.{rules}
 use mir.Syntax.{w64}
 use mir.Val.{Fits}
 use Rattle.recorder.proofs.feed.Goals as goal
-
--- a line feed is what the search stops at
-to-newline : {end : ℕ} (xs : List ℕ) → end ≡ index_of (stops_at Newline) xs → end ≡ index_of newline xs
-unfolding stops_at
-to-newline xs e = e
 
 pub loop-said-init : goal.loop-said-init
 loop-said-init c = going-none _ _ _ _ _ (omega arith)
@@ -82,7 +72,7 @@ overflow_add-at c =
     omega (arith, c.find.ensures.upper_bound, ap length (onward piece c.loop-said.at), length-drop c.loop-said.at piece, left) in
     let further : let q = c.feed_part-p.result in
     (0 < q.taken) × (c.loop-said.at + q.taken ≤ length c.args.piece.now) × (c.loop-said.used + q.used ≤ length c.args.out.now) =
-    goes_further c.loop-said.invariant go _ (ap (λ k. c.loop-said.at + k) (to-newline _ c.find.ensures.value)) most c.feed_part-p.ensures.value in
+    goes_further c.loop-said.invariant go _ (ap (λ k. c.loop-said.at + k) c.find.ensures.value) most c.feed_part-p.ensures.value in
     let fit : Fits w64 (length c.args.piece.now) × Fits w64 (length c.args.out.now) = (search rules, search rules) in
     omega (arith, further.1, fit.0.fits)
 
@@ -94,7 +84,7 @@ overflow_add-used c =
     omega (arith, c.find.ensures.upper_bound, ap length (onward piece c.loop-said.at), length-drop c.loop-said.at piece, left) in
     let further : let q = c.feed_part-p.result in
     (0 < q.taken) × (c.loop-said.at + q.taken ≤ length c.args.piece.now) × (c.loop-said.used + q.used ≤ length c.args.out.now) =
-    goes_further c.loop-said.invariant go _ (ap (λ k. c.loop-said.at + k) (to-newline _ c.find.ensures.value)) most c.feed_part-p.ensures.value in
+    goes_further c.loop-said.invariant go _ (ap (λ k. c.loop-said.at + k) c.find.ensures.value) most c.feed_part-p.ensures.value in
     let fit : Fits w64 (length c.args.piece.now) × Fits w64 (length c.args.out.now) = (search rules, search rules) in
     omega (arith, further.2, fit.1.fits)
 
@@ -106,7 +96,7 @@ loop-said-smaller c =
     omega (arith, c.find.ensures.upper_bound, ap length (onward piece c.loop-said.at), length-drop c.loop-said.at piece, left) in
     let further : let q = c.feed_part-p.result in
     (0 < q.taken) × (c.loop-said.at + q.taken ≤ length c.args.piece.now) × (c.loop-said.used + q.used ≤ length c.args.out.now) =
-    goes_further c.loop-said.invariant go _ (ap (λ k. c.loop-said.at + k) (to-newline _ c.find.ensures.value)) most c.feed_part-p.ensures.value in
+    goes_further c.loop-said.invariant go _ (ap (λ k. c.loop-said.at + k) c.find.ensures.value) most c.feed_part-p.ensures.value in
     omega (arith, further.0, further.1)
 
 pub loop-said-preserved : goal.loop-said-preserved
@@ -116,7 +106,7 @@ loop-said-preserved c =
     let most : c.loop-said.at + c.find.result ≤ length c.args.piece.now = let piece = c.args.piece.now in
     omega (arith, c.find.ensures.upper_bound, ap length (onward piece c.loop-said.at), length-drop c.loop-said.at piece, left) in
     let p = c.feed_part-p.ensures in
-    going_more c.loop-said.invariant go _ (ap (λ k. c.loop-said.at + k) (to-newline _ c.find.ensures.value)) most (p.value, (p.held_after, (p.out_after, p.err_after)))
+    going_more c.loop-said.invariant go _ (ap (λ k. c.loop-said.at + k) c.find.ensures.value) most (p.value, (p.held_after, (p.out_after, p.err_after)))
 
 pub shape_of-out-then-r : goal.shape_of-out-then-r
 shape_of-out-then-r c = same-room c.loop-said.invariant
